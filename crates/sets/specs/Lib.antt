@@ -1,0 +1,4 @@
+pub mod Bits
+pub mod Closure
+pub mod Matroid
+pub mod Refusals

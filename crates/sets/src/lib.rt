@@ -1,0 +1,2 @@
+// Finite sets as bits in lent memory, numbers in bytes, and the refusals.
+pub mod refusal;
