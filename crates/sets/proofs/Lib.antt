@@ -1,3 +1,4 @@
+pub mod ClosureTheorem
 pub mod FiniteSets
 pub mod MatroidLaws
 pub mod Weights
