@@ -1,2 +1,4 @@
+pub mod Exchanges
+pub mod Gains
 pub mod Optimal
 pub mod Rules
