@@ -1,1 +1,2 @@
-// (empty)
+// A heaviest choice for every size.
+mod parts;
