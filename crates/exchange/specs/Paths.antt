@@ -1,10 +1,11 @@
 -- Augmenting paths and what they make of a set. Assumes nothing: definitions, and statements whose proofs are owed by the
 -- functions that name them. A path is x 0, y 0, x 1, .., y (k - 1), x k: each x comes, each y goes.
 use mathlib.Core.Path.{_≡_}
-use mathlib.Core.Bool.{Bool, true, false}
+use mathlib.Core.Bool.{Bool, true, false, _&&_, _||_, not}
 use Prim.Native.Nat.{ℕ, zero, suc, _+_, _≤_, _<_}
 use Rattle.sets.specs.Matroid.{Set, size, weight, without, with, Matroid}
 use Rattle.matroid.specs.Optimal.{Split, Dual}
+use Rattle.matroid.specs.Exchanges.{among}
 use Rattle.exchange.specs.Round.{Closed}
 
 -- what the first k elements of a sequence weigh together
@@ -47,10 +48,9 @@ pub record Best-path (n : ℕ) (f g : Set → Bool) (w : ℕ → ℕ) (s : Set) 
   pub most : (l : ℕ) (u v : ℕ → ℕ) → Augmenting n f g s l u v → Distinct l u v → No-more w l u v k x y
   pub fewest : (l : ℕ) (u v : ℕ → ℕ) → Augmenting n f g s l u v → Distinct l u v → As-much w l u v k x y → k ≤ l
 
--- the set after the first k exchanges of a path
+-- the set without all that goes and with all that comes
 abbrev pub along : Set → (ℕ → ℕ) → (ℕ → ℕ) → ℕ → Set
-along s x y zero = with s (x 0)
-along s x y (suc k) = with (without (along s x y k) (y k)) (x (suc k))
+along s x y k v = (s v && not (among y k v)) || among x (suc k) v
 
 -- what a path should lead to: a set that both allow, of one element more, with the weight that the path says
 pub record Augmented (n : ℕ) (f g : Set → Bool) (w : ℕ → ℕ) (s : Set) (k : ℕ) (x y : ℕ → ℕ) : Type 0 where
