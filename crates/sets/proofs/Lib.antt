@@ -1,0 +1,3 @@
+pub mod FiniteSets
+pub mod MatroidLaws
+pub mod Weights
