@@ -1,1 +1,7 @@
 pub mod Settling
+pub mod Along
+pub mod BestPaths
+pub mod Cuts
+pub mod Cycles
+pub mod Shorten
+pub mod Shortcuts

@@ -1,2 +1,3 @@
 pub mod Graph
+pub mod Paths
 pub mod Round
