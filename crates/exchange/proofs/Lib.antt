@@ -1,3 +1,5 @@
+pub mod Cells
+pub mod Relaxing
 pub mod Settling
 pub mod Along
 pub mod BestPaths

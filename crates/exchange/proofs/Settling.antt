@@ -8,7 +8,7 @@ use lib.Dec.{eqb, ltb, leb}
 use Rattle.std.proofs.shelf.Tests.{cases-bool, cases-eq, cases-lt, both-ways, and-parts}
 use Rattle.sets.specs.Matroid.{pick, Set, size}
 use Rattle.exchange.specs.Round.{top, Before}
-use Rattle.exchange.specs.Graph.{Shortest}
+use Rattle.exchange.specs.Graph.{Shortest, bettered, Changed}
 
 -- what holds between two turns
 pub record Going (n : ℕ) (to : ℕ → ℕ → Bool) (c : ℕ → ℕ → ℕ) (source settled reached : Set) (d k back : ℕ → ℕ) : Type 0 where
@@ -21,27 +21,16 @@ pub record Going (n : ℕ) (to : ℕ → ℕ → Bool) (c : ℕ → ℕ → ℕ)
       (back v < n) × (settled (back v) ≡ true) × (to (back v) v ≡ true) × (d v ≡ d (back v) + c (back v) v) × (k v ≡ k (back v) + 1)
   pub begun : (v : ℕ) → v < n → reached v ≡ true → k v ≤ 1 → (source v ≡ true) × (d v ≡ 0) × (1 ≤ k v)
 
--- the label of u is bettered by an arc from m
-abbrev pub bettered : (ℕ → ℕ → Bool) → (ℕ → ℕ → ℕ) → Set → Set → (ℕ → ℕ) → (ℕ → ℕ) → ℕ → ℕ → Bool
-bettered to c settled reached d k m u =
-    to m u && not (settled u) && (not (reached u) || not (Before (d u) (k u) (d m + c m u) (k m + 1)))
-
--- labels after a change at the elements of a set, to a path by way of m
-pub record Changed (c : ℕ → ℕ → ℕ) (m : ℕ) (which reached after : Set) (d k back e l ahead : ℕ → ℕ) (u : ℕ) : Type 0 where
-  pub marks : after u ≡ (reached u || which u)
-  pub costs : e u ≡ pick (which u) (d m + c m u) (d u)
-  pub steps : l u ≡ pick (which u) (k m + 1) (k u)
-  pub backs : ahead u ≡ pick (which u) m (back u)
-
 -- where nothing is left to settle, the labels are complete
 pub complete : (n : ℕ) (to : ℕ → ℕ → Bool) (c : ℕ → ℕ → ℕ) (source settled reached : Set) (d k back : ℕ → ℕ) →
     Going n to c source settled reached d k back → ((v : ℕ) → v < n → reached v ≡ true → settled v ≡ true) →
     Shortest n to c source reached d k back
 complete n to c source settled reached d k back h all = record {
-    start = h .start;
-    step = λ v u p q r t. h .step v u p q (all v p r) t;
-    along = λ v p r l. let x = h .along v p r l in (x .0, h .held (back v) (x .0) (x .1), x .2, x .3, x .4);
-    begun = λ v p r l. let x = h .begun v p r l in (x .0, x .1)}
+  start = h .start;
+  step = λ v u p q r t. h .step v u p q (all v p r) t;
+  along = λ v p r l. let x = h .along v p r l in (x .0, h .held (back v) (x .0) (x .1), x .2, x .3, x .4);
+  begun = λ v p r l. let x = h .begun v p r l in (x .0, x .1);
+}
 
 -- the order of labels, over plain numbers
 before-trans : (d k e l f m : ℕ) → Before d k e l ≡ true → Before e l f m ≡ true → Before d k f m ≡ true
@@ -103,8 +92,7 @@ module _ (n : ℕ) (to : ℕ → ℕ → Bool) (c : ℕ → ℕ → ℕ) (source
     (below : m < n) (found : reached m ≡ true) (fresh : settled m ≡ false)
     (least : (v : ℕ) → v < n → reached v ≡ true → settled v ≡ false → Before (d m) (k m) (d v) (k v) ≡ true)
     (joined : (v : ℕ) → v < n → done v ≡ (settled v || eqb v m))
-    (each : (u : ℕ) → u < n → Changed c m (bettered to c done reached d k m) reached after d k back e l ahead u) where
-
+    (each : (u : ℕ) → u < n → Changed (λ u. d m + c m u) (k m + 1) m (bettered to c done reached d k m) reached after d k back e l ahead u) where
   abbrev which : Set
   which = bettered to c done reached d k m
 
@@ -119,12 +107,12 @@ module _ (n : ℕ) (to : ℕ → ℕ → Bool) (c : ℕ → ℕ → ℕ) (source
       let x = each u p in
       ⊎-elim
       (λ (b : which u ≡ true).
-          let parts = better-parts (to m u) (done u) (reached u) (Before (d u) (k u) (d m + c m u) (k m + 1)) b in
-          move (parts .0) (parts .1) (parts .2) (pick-true (which u) _ _ _ b (x .costs)) (pick-true (which u) _ _ _ b (x .steps))
-          (pick-true (which u) _ _ _ b (x .backs)) (or-true (reached u) (which u) (after u) b (x .marks)))
+      let parts = better-parts (to m u) (done u) (reached u) (Before (d u) (k u) (d m + c m u) (k m + 1)) b in
+      move (parts .0) (parts .1) (parts .2) (pick-true (which u) _ _ _ b (x .costs)) (pick-true (which u) _ _ _ b (x .steps))
+      (pick-true (which u) _ _ _ b (x .backs)) (or-true (reached u) (which u) (after u) b (x .marks)))
       (λ (b : which u ≡ false).
-          stay b (pick-false (which u) _ _ _ b (x .costs)) (pick-false (which u) _ _ _ b (x .steps))
-          (pick-false (which u) _ _ _ b (x .backs)) (or-false (reached u) (which u) (after u) b (x .marks)))
+      stay b (pick-false (which u) _ _ _ b (x .costs)) (pick-false (which u) _ _ _ b (x .steps))
+      (pick-false (which u) _ _ _ b (x .backs)) (or-false (reached u) (which u) (after u) b (x .marks)))
       (cases-bool (which u))
 
   -- an element that is settled now was settled before, or it is m
@@ -153,41 +141,45 @@ module _ (n : ℕ) (to : ℕ → ℕ → Bool) (c : ℕ → ℕ → ℕ) (source
   turn-start x p q =
       let s = h .start x p q in
       elim (way x p) [
-        stay b i j z t ↦ (t ∙ s .0, i ∙ s .1, j ∙ s .2)
-      | move b o r i j z t ↦
-          absurd (both-ways _ (r (s .0)) (first-before (d x) (k x) (d m + c m x) (k m) (s .1) (s .2))) ]
+        | stay b i j z t ↦ (t ∙ s .0, i ∙ s .1, j ∙ s .2)
+        | move b o r i j z t ↦
+            absurd (both-ways _ (r (s .0)) (first-before (d x) (k x) (d m + c m x) (k m) (s .1) (s .2)))
+      ]
 
   turn-step : (v u : ℕ) → v < n → u < n → done v ≡ true → to v u ≡ true →
       (after u ≡ true) × (Before (e u) (l u) (e v + c v u) (l v + 1) ≡ true)
   turn-step v u p q s t =
       let old = same v p s in
       let via : (after u ≡ true) × (Before (e u) (l u) (d v + c v u) (k v + 1) ≡ true) =
-          ⊎-elim
-          (λ (w : settled v ≡ true).
-              let x = h .step v u p q w t in
-              elim (way u q) [
-                stay b i j z o ↦ (o ∙ x .0, before-at (d u) (k u) (e u) (l u) _ _ i j (x .1))
-              | move b o r i j z f ↦
-                  (f, before-at _ _ (e u) (l u) _ _ i j (before-trans _ _ (d u) (k u) _ _ (before-other (d u) (k u) (d m + c m u) (k m + 1) (r (x .0))) (x .1))) ])
-          (λ (w : v ≡ m).
-              let z = by-m u q (sym (ap (λ (x : ℕ). to x u) w) ∙ t) in
-              (z .0, before-from (λ (x : ℕ). d x + c x u) (λ (x : ℕ). k x + 1) (e u) (l u) v m w (z .1)))
-          (was v p s) in
+      ⊎-elim
+      (λ (w : settled v ≡ true).
+      let x = h .step v u p q w t in
+      elim (way u q) [
+        | stay b i j z o ↦ (o ∙ x .0, before-at (d u) (k u) (e u) (l u) _ _ i j (x .1))
+        | move b o r i j z f ↦
+            (f, before-at _ _ (e u) (l u) _ _ i j (before-trans _ _ (d u) (k u) _ _ (before-other (d u) (k u) (d m + c m u) (k m + 1) (r (x .0))) (x .1)))
+      ])
+      (λ (w : v ≡ m).
+      let z = by-m u q (sym (ap (λ (x : ℕ). to x u) w) ∙ t) in
+      (z .0, before-from (λ (x : ℕ). d x + c x u) (λ (x : ℕ). k x + 1) (e u) (l u) v m w (z .1)))
+      (was v p s) in
       (via .0, before-to (e u) (l u) (d v) (k v) (e v) (l v) (c v u) (old .0) (old .1) (via .1))
     where
-    by-m : (u : ℕ) → u < n → to m u ≡ true → (after u ≡ true) × (Before (e u) (l u) (d m + c m u) (k m + 1) ≡ true)
-    by-m u q t =
-        elim (way u q) [
-          stay b i j z o ↦
-            ⊎-elim
-            (λ (f : done u ≡ true).
-                (o ∙ held-m u q f,
-                 before-at (d u) (k u) (e u) (l u) _ _ i j (before-trans _ _ (d m) (k m) _ _ (early u q f) (before-more (d m) (k m) (c m u)))))
-            (λ (f : done u ≡ false).
+      by-m : (u : ℕ) → u < n → to m u ≡ true → (after u ≡ true) × (Before (e u) (l u) (d m + c m u) (k m + 1) ≡ true)
+      by-m u q t =
+          elim (way u q) [
+            | stay b i j z o ↦
+                ⊎-elim
+                (λ (f : done u ≡ true). (
+                  o ∙ held-m u q f,
+                  before-at (d u) (k u) (e u) (l u) _ _ i j (before-trans _ _ (d m) (k m) _ _ (early u q f) (before-more (d m) (k m) (c m u))),
+                ))
+                (λ (f : done u ≡ false).
                 let x = not-better (to m u) (done u) (reached u) (Before (d u) (k u) (d m + c m u) (k m + 1)) t f b in
                 (o ∙ x .0, before-at (d u) (k u) (e u) (l u) _ _ i j (x .1)))
-            (cases-bool (done u))
-        | move b o r i j z f ↦ (f, before-same _ _ (e u) (l u) i j) ]
+                (cases-bool (done u))
+            | move b o r i j z f ↦ (f, before-same _ _ (e u) (l u) i j)
+          ]
 
   turn-ahead : (v u : ℕ) → v < n → u < n → done v ≡ true → after u ≡ true → done u ≡ false → Before (e v) (l v) (e u) (l u) ≡ true
   turn-ahead v u p q s r f =
@@ -195,42 +187,46 @@ module _ (n : ℕ) (to : ℕ → ℕ → Bool) (c : ℕ → ℕ → ℕ) (source
       let x = early v p s in
       let unsettled : settled u ≡ false = let j = joined u q in grind arith in
       let y : Before (d m) (k m) (e u) (l u) ≡ true =
-          elim (way u q) [
-            stay b i j z o ↦ before-onto (d u) (k u) (e u) (l u) _ _ i j (least u q (sym o ∙ r) unsettled)
-          | move b o g i j z t ↦ before-onto _ _ (e u) (l u) _ _ i j (before-more (d m) (k m) (c m u)) ] in
+      elim (way u q) [
+        | stay b i j z o ↦ before-onto (d u) (k u) (e u) (l u) _ _ i j (least u q (sym o ∙ r) unsettled)
+        | move b o g i j z t ↦ before-onto _ _ (e u) (l u) _ _ i j (before-more (d m) (k m) (c m u))
+      ] in
       before-at (d v) (k v) (e v) (l v) _ _ (old .0) (old .1) (before-trans _ _ (d m) (k m) _ _ x y)
 
   turn-along : (v : ℕ) → v < n → after v ≡ true → 1 < l v →
       (ahead v < n) × (done (ahead v) ≡ true) × (to (ahead v) v ≡ true) × (e v ≡ e (ahead v) + c (ahead v) v) × (l v ≡ l (ahead v) + 1)
   turn-along v p r g =
       elim (way v p) [
-        stay b i j z o ↦
-          let x = h .along v p (sym o ∙ r) (omega arith) in
-          let f : done (back v) ≡ true = let jo = joined (back v) (x .0) in let xs = x .1 in grind arith in
-          let y = same (back v) (x .0) f in
-          moved-along (back v) (ahead v) z (x .0) f (x .2) (i ∙ x .3 ∙ ap (λ (a : ℕ). a + c (back v) v) (sym (y .0)))
-          (j ∙ x .4 ∙ ap (λ (a : ℕ). a + 1) (sym (y .1)))
-      | move b o f i j z t ↦
-          let y = same m below settled-m in
-          moved-along m (ahead v) z below settled-m b (i ∙ ap (λ (a : ℕ). a + c m v) (sym (y .0))) (j ∙ ap (λ (a : ℕ). a + 1) (sym (y .1))) ]
+        | stay b i j z o ↦
+            let x = h .along v p (sym o ∙ r) (omega arith) in
+            let f : done (back v) ≡ true = let jo = joined (back v) (x .0) in let xs = x .1 in grind arith in
+            let y = same (back v) (x .0) f in
+            moved-along (back v) (ahead v) z (x .0) f (x .2) (i ∙ x .3 ∙ ap (λ (a : ℕ). a + c (back v) v) (sym (y .0)))
+            (j ∙ x .4 ∙ ap (λ (a : ℕ). a + 1) (sym (y .1)))
+        | move b o f i j z t ↦
+            let y = same m below settled-m in
+            moved-along m (ahead v) z below settled-m b (i ∙ ap (λ (a : ℕ). a + c m v) (sym (y .0))) (j ∙ ap (λ (a : ℕ). a + 1) (sym (y .1)))
+      ]
     where
-    moved-along : (x y : ℕ) → y ≡ x → x < n → done x ≡ true → to x v ≡ true → e v ≡ e x + c x v → l v ≡ l x + 1 →
-        (y < n) × (done y ≡ true) × (to y v ≡ true) × (e v ≡ e y + c y v) × (l v ≡ l y + 1)
-    moved-along x y q a b t f s =
-        (omega arith, ap done q ∙ b, ap (λ (i : ℕ). to i v) q ∙ t, f ∙ sym (ap (λ (i : ℕ). e i + c i v) q), s ∙ sym (ap (λ (i : ℕ). l i + 1) q))
+      moved-along : (x y : ℕ) → y ≡ x → x < n → done x ≡ true → to x v ≡ true → e v ≡ e x + c x v → l v ≡ l x + 1 →
+          (y < n) × (done y ≡ true) × (to y v ≡ true) × (e v ≡ e y + c y v) × (l v ≡ l y + 1)
+      moved-along x y q a b t f s =
+          (omega arith, ap done q ∙ b, ap (λ (i : ℕ). to i v) q ∙ t, f ∙ sym (ap (λ (i : ℕ). e i + c i v) q), s ∙ sym (ap (λ (i : ℕ). l i + 1) q))
 
   turn-begun : (v : ℕ) → v < n → after v ≡ true → l v ≤ 1 → (source v ≡ true) × (e v ≡ 0) × (1 ≤ l v)
   turn-begun v p r g =
       elim (way v p) [
-        stay b i j z o ↦ let x = h .begun v p (sym o ∙ r) (omega arith) in (x .0, i ∙ x .1, omega (arith, x .2))
-      | move b o f i j z t ↦ let x = h .begun m below found (omega arith) in absurd (omega (arith, x .2)) ]
+        | stay b i j z o ↦ let x = h .begun v p (sym o ∙ r) (omega arith) in (x .0, i ∙ x .1, omega (arith, x .2))
+        | move b o f i j z t ↦ let x = h .begun m below found (omega arith) in absurd (omega (arith, x .2))
+      ]
 
   -- the turn keeps what holds between turns
   pub turn : Going n to c source done after e l ahead
   turn = record {
-      start = turn-start;
-      held = λ v p q. same v p q .2 ∙ held-m v p q;
-      step = turn-step;
-      ahead = turn-ahead;
-      along = turn-along;
-      begun = turn-begun}
+    start = turn-start;
+    held = λ v p q. same v p q .2 ∙ held-m v p q;
+    step = turn-step;
+    ahead = turn-ahead;
+    along = turn-along;
+    begun = turn-begun;
+  }

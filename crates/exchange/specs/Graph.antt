@@ -35,11 +35,10 @@ pub record Tables (n : ℕ) (f g : Set → Bool) (s : Set) (arcs sources sinks :
   pub each-source : (x : ℕ) → x < n → marked sources x ≡ addable f s x
   pub each-sink : (x : ℕ) → x < n → marked sinks x ≡ addable g s x
 
--- no arc has a negative cost, the sources have no potential, and all numbers are small
-pub record Priced (n : ℕ) (to : ℕ → ℕ → Bool) (source : Set) (s : Set) (w a : ℕ → ℕ) : Type 0 where
+-- no arc has a negative cost, and all numbers are small
+pub record Priced (n : ℕ) (to : ℕ → ℕ → Bool) (s : Set) (w a : ℕ → ℕ) : Type 0 where
   pub outward : (v u : ℕ) → v < n → u < n → s v ≡ true → to v u ≡ true → a u ≤ a v
   pub inward : (v u : ℕ) → v < n → u < n → s v ≡ false → to v u ≡ true → w v + a u ≤ w u + a v
-  pub begins : (x : ℕ) → x < n → source x ≡ true → a x ≡ 0
   pub light : (x : ℕ) → x < n → w x ≤ top
   pub low : (x : ℕ) → x < n → a x ≤ 601 * top
 
@@ -51,6 +50,21 @@ pub record Shortest (n : ℕ) (to : ℕ → ℕ → Bool) (c : ℕ → ℕ → �
   pub along : (v : ℕ) → v < n → reached v ≡ true → 1 < k v →
       (back v < n) × (reached (back v) ≡ true) × (to (back v) v ≡ true) × (d v ≡ d (back v) + c (back v) v) × (k v ≡ k (back v) + 1)
   pub begun : (v : ℕ) → v < n → reached v ≡ true → k v ≤ 1 → (source v ≡ true) × (d v ≡ 0)
+
+-- a new label is taken at u: there is none yet, or it is better
+abbrev pub takes : Set → (ℕ → ℕ) → (ℕ → ℕ) → ℕ → ℕ → ℕ → Bool
+takes reached d k u e l = not (reached u) || not (Before (d u) (k u) e l)
+
+-- the label of u is bettered by an arc from m, where u is not settled
+abbrev pub bettered : (ℕ → ℕ → Bool) → (ℕ → ℕ → ℕ) → Set → Set → (ℕ → ℕ) → (ℕ → ℕ) → ℕ → ℕ → Bool
+bettered to c settled reached d k m u = to m u && not (settled u) && takes reached d k u (d m + c m u) (k m + 1)
+
+-- the label of u after a change at the elements of a set: they then have the cost e and the steps l by way of m
+pub record Changed (e : ℕ → ℕ) (l m : ℕ) (which reached after : Set) (d k back d′ k′ back′ : ℕ → ℕ) (u : ℕ) : Type 0 where
+  pub marks : after u ≡ (reached u || which u)
+  pub costs : d′ u ≡ pick (which u) (e u) (d u)
+  pub steps : k′ u ≡ pick (which u) l (k u)
+  pub backs : back′ u ≡ pick (which u) m (back u)
 
 -- labels are small: what a path has cost is at most its steps times the largest weight
 abbrev pub Small-labels : ℕ → (ℕ → ℕ) → (ℕ → ℕ) → Set → (ℕ → ℕ) → (ℕ → ℕ) → ℕ → Type 0

@@ -1,1 +1,3 @@
-// (empty)
+// One round's work on lent memory: the exchange graph, labels, the end of a best path, the path itself and the dual set.
+mod labels;
+mod rows;

@@ -12,10 +12,23 @@ pub mod theory;
 // A rule of one of the four kinds, with its counts and the place of its data in the file.
 #[derive(Clone, Copy)]
 pub enum Rule {
-    Limits { groups: usize, at: usize },
-    Volunteers { volunteers: usize, at: usize },
-    Links { towns: usize, at: usize },
-    Rows { prime: u32, length: usize, at: usize },
+    Limits {
+        groups: usize,
+        at: usize,
+    },
+    Volunteers {
+        volunteers: usize,
+        at: usize,
+    },
+    Links {
+        towns: usize,
+        at: usize,
+    },
+    Rows {
+        prime: u32,
+        length: usize,
+        at: usize,
+    },
 }
 
 // Is the set allowed? Where it is, the state then holds what the other two functions keep of this set.
@@ -38,7 +51,15 @@ pub fn can_add(file: &[u8], n: usize, rule: Rule, set: &[u32], state: &[u32], x:
 }
 
 // Is the set with x in the place of y allowed, for an x outside and a y inside?
-pub fn can_exchange(file: &[u8], n: usize, rule: Rule, set: &[u32], state: &[u32], x: usize, y: usize) -> bool
+pub fn can_exchange(
+    file: &[u8],
+    n: usize,
+    rule: Rule,
+    set: &[u32],
+    state: &[u32],
+    x: usize,
+    y: usize,
+) -> bool
     requires well { ⌜ Well (now file) n rule ⌝ ∗ ⌜ n ≤ 600 ⌝ ∗ ⌜ row-words n ≤ length (now set) ⌝ }
     requires ready { ⌜ Ready (now file) n rule (marked (now set)) (now state) ⌝ }
     requires outside { ⌜ x < n ⌝ ∗ ⌜ marked (now set) x ≡ false ⌝ }
