@@ -94,3 +94,35 @@ pub fn copy_row(from: &[u32], at: usize, words: &mut [u32], to: usize, len: usiz
         words[to + k] = from[at + k];
     }
 }
+
+// The low n bits of a byte: all of it from 8 on.
+fn low_bits(byte: u8, n: usize) -> u8
+    ensures { λ r. ⌜ r ≡ byte % 2 ^ n ⌝ }
+{
+    if n < 8 { byte % (1 << n) } else { byte }
+}
+
+// Row `to` of words becomes the row of n bits in the bytes from `at` on; what is left of its last word is 0.
+pub fn load_row(bytes: &[u8], at: usize, n: usize, words: &mut [u32], to: usize)
+    requires { ⌜ at + row-bytes n ≤ length (now bytes) ⌝ ∗ ⌜ to + row-words n ≤ length (now words) ⌝ ∗ ⌜ n < 2 ^ 32 ⌝ }
+    ensures marks { λ _. ⌜ ((j : ℕ) → j < 32 * row-words n → word-row (now (words .exit)) to j ≡ (ltb j n && row (now (bytes .entry)) at j)) ⌝ }
+    ensures rest { λ _. ⌜ Same-but to (row-words n) (now (words .entry)) (now (words .exit)) ⌝ }
+{
+    clear_row(words, to, (n + 31) / 32);
+    for k in 0..(n + 7) / 8 {
+        let byte = low_bits(bytes[at + k], n - 8 * k);
+        words[to + k / 4] |= (byte as u32) << (8 * (k % 4));
+    }
+}
+
+// The bytes from `to` on become row `from` of words, of n bits; what is left of the last byte is 0.
+pub fn store_row(words: &[u32], from: usize, n: usize, bytes: &mut [u8], to: usize)
+    requires { ⌜ from + row-words n ≤ length (now words) ⌝ ∗ ⌜ to + row-bytes n ≤ length (now bytes) ⌝ ∗ ⌜ n < 2 ^ 32 ⌝ }
+    ensures members { λ _. ⌜ ((j : ℕ) → j < 8 * row-bytes n → row (now (bytes .exit)) to j ≡ (ltb j n && word-row (now (words .entry)) from j)) ⌝ }
+    ensures rest { λ _. ⌜ Same-but to (row-bytes n) (now (bytes .entry)) (now (bytes .exit)) ⌝ }
+{
+    for k in 0..(n + 7) / 8 {
+        let byte = (words[from + k / 4] >> (8 * (k % 4))) % 256;
+        bytes[to + k] = low_bits(byte as u8, n - 8 * k);
+    }
+}
