@@ -2,3 +2,4 @@ pub mod Masks
 pub mod Marks
 pub mod Stretches
 pub mod Transfer
+pub mod Places
