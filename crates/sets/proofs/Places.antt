@@ -5,14 +5,14 @@ use mathlib.Core.List.{List}
 use mathlib.Core.Logic.{_⊎_, inl, inr, ⊎-elim}
 use Prim.Native.Nat.{ℕ, zero, suc, _+_, _-_, _*_, _/_, _%_, _^_, _≤_, _<_}
 use native.Mathlib.Omega.{arith}
-use native.Mathlib.Nat.{mul-le-mul-right, add-mul}
+use native.Mathlib.Nat.{add-mul}
 use lib.Dec.{eqb, ltb, leb}
 use lib.ListN.{length, getD, set}
-use Rattle.std.proofs.shelf.Tests.{cases-order, cases-lt, ltb-true, lt-ltb}
+use Rattle.std.proofs.shelf.Tests.{cases-order}
 use Rattle.std.proofs.shelf.Bits.{mul-le}
 use Rattle.sets.specs.Bits.{member, marked, row, word-row, Same-but}
-use Rattle.sets.specs.Matroid.{Set, with, without, size, pick}
-use Rattle.sets.proofs.Stretches.{marks-outside, members-outside}
+use Rattle.sets.specs.Matroid.{Set, with, without}
+use Rattle.sets.proofs.Stretches.{marks-outside}
 
 -- a shift of both leaves the test of two numbers
 pub eqb-shift : (a i j : ℕ) → eqb (a + j) (a + i) ≡ eqb j i
@@ -51,10 +51,3 @@ table-row-kept base m y xs ys s z ne j h =
     (⊎-elim
     (λ (l : base + z * m + j / 32 < base + y * m). inl (omega arith))
     (λ (l : base + y * m + m ≤ base + z * m + j / 32). inr (omega arith)) o)
-
--- sets that agree below n have the same size
-pub size-same : (n : ℕ) (s t : Set) → ((x : ℕ) → x < n → s x ≡ t x) → size n s ≡ size n t
-size-same zero s t h = refl
-size-same (suc n) s t h =
-    ap (λ (b : Bool). pick {A = ℕ} b 1 0 + size n s) (h n (omega arith))
-    ∙ ap (λ (k : ℕ). pick {A = ℕ} (t n) 1 0 + k) (size-same n s t (λ x l. h x (omega arith)))
