@@ -5,3 +5,5 @@ pub mod Weights
 pub mod Masks
 pub mod Marks
 pub mod Stretches
+pub mod Transfer
+pub mod Places
