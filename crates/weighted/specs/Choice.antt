@@ -14,7 +14,7 @@ use Rattle.matroid.specs.Optimal.{Dual, Signed-split}
 
 -- how many bytes of sets and how many numbers a choice takes
 abbrev pub sets-length : ℕ → ℕ
-sets-length n = row-bytes n * (n + 2)
+sets-length n = (n + 2) * row-bytes n
 
 abbrev pub numbers-length : ℕ → ℕ
 numbers-length n = 2 * (n * n)
@@ -27,7 +27,7 @@ abbrev pub dual-set : ℕ → List ℕ → Set
 dual-set n sets = row sets (row-bytes n)
 
 abbrev pub sized-set : ℕ → List ℕ → ℕ → Set
-sized-set n sets j = row sets (row-bytes n * (j + 2))
+sized-set n sets j = row sets ((j + 2) * row-bytes n)
 
 -- the two parts of the weight of offer x at size j + 1, signed numbers of 64 bits
 abbrev pub first-part : ℕ → List ℕ → ℕ → ℕ → ℤ
