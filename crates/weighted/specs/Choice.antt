@@ -31,10 +31,10 @@ sized-set n sets j = row sets ((j + 2) * row-bytes n)
 
 -- the two parts of the weight of offer x at size j + 1, signed numbers of 64 bits
 abbrev pub first-part : ℕ → List ℕ → ℕ → ℕ → ℤ
-first-part n numbers j x = toZ w64 (getD numbers (2 * (n * j + x)) 0)
+first-part n numbers j x = toZ w64 (getD numbers (2 * (j * n + x)) 0)
 
 abbrev pub second-part : ℕ → List ℕ → ℕ → ℕ → ℤ
-second-part n numbers j x = toZ w64 (getD numbers (2 * (n * j + x) + 1) 0)
+second-part n numbers j x = toZ w64 (getD numbers (2 * (j * n + x) + 1) 0)
 
 -- what the set of a size weighs; the empty set weighs nothing
 abbrev pub weight-of-size : ℕ → (ℕ → ℕ) → List ℕ → ℕ → ℕ

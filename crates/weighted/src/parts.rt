@@ -62,15 +62,15 @@ fn rest_of(weight: u32, first: u32) -> u64
 
 // Writes the two parts of each of n weights, for the size j + 1: the potential, and what is left.
 pub fn write_parts(n: usize, weights: &[u32], potentials: &[u32], j: usize, numbers: &mut [u64])
-    requires lengths { ⌜ n ≤ length (now weights) ⌝ ∗ ⌜ n ≤ length (now potentials) ⌝ ∗ ⌜ 2 * (n * (j + 1)) ≤ length (now numbers) ⌝ }
+    requires lengths { ⌜ n ≤ length (now weights) ⌝ ∗ ⌜ n ≤ length (now potentials) ⌝ ∗ ⌜ 2 * ((j + 1) * n) ≤ length (now numbers) ⌝ }
     ensures first { λ _. ⌜ ((x : ℕ) → x < n → first-part n (now (numbers .exit)) j x ≡ pos (at (now (potentials .entry)) x)) ⌝ }
     ensures second {
         λ _. ⌜ ((x : ℕ) → x < n → second-part n (now (numbers .exit)) j x ≡ pos (at (now (weights .entry)) x) -ℤ pos (at (now (potentials .entry)) x)) ⌝
     }
-    ensures rest { λ _. ⌜ Same-but (2 * (n * j)) (2 * n) (now (numbers .entry)) (now (numbers .exit)) ⌝ }
+    ensures rest { λ _. ⌜ Same-but (2 * (j * n)) (2 * n) (now (numbers .entry)) (now (numbers .exit)) ⌝ }
 {
     for x in 0..n {
-        let place = 2 * (n * j + x);
+        let place = 2 * (j * n + x);
         numbers[place] = potentials[x] as u64;
         numbers[place + 1] = rest_of(weights[x], potentials[x]);
     }

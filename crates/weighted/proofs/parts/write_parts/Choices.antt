@@ -10,4 +10,4 @@ abbrev pub Inv-loop-x : given.InvT-loop-x
 Inv-loop-x l =
     ((k : ℕ) → k < l .x → first-part (l .n) (l .numbers) (l .j) k ≡ pos (at (l .potentials) k)) ×
     ((k : ℕ) → k < l .x → second-part (l .n) (l .numbers) (l .j) k ≡ pos (at (l .weights) k) -ℤ pos (at (l .potentials) k)) ×
-    Same-but (2 * (l .n * l .j)) (2 * l .x) (l .entry .numbers) (l .numbers)
+    Same-but (2 * (l .j * l .n)) (2 * l .x) (l .entry .numbers) (l .numbers)
