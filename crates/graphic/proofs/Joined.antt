@@ -11,7 +11,7 @@ use Rattle.graphic.specs.Links.{joined, spanned}
 
 module _ (from to : ℕ → ℕ) where
   -- no link at all joins a town with itself only
-  joined-none : (s : Set) (u v : ℕ) → joined from to 0 s u v ≡ eqb u v
+  pub joined-none : (s : Set) (u v : ℕ) → joined from to 0 s u v ≡ eqb u v
   unfolding joined
   joined-none s u v = refl
 
@@ -26,13 +26,13 @@ module _ (from to : ℕ → ℕ) where
   joined-more m s u v = refl
 
   -- the ways in which one more link joins two towns
-  abbrev Ways : ℕ → Set → ℕ → ℕ → Type 0
+  abbrev pub Ways : ℕ → Set → ℕ → ℕ → Type 0
   Ways m s u v =
     (joined from to m s u v ≡ true)
     ⊎ (((s m ≡ true) × (joined from to m s u (from m) ≡ true) × (joined from to m s (to m) v ≡ true))
     ⊎ ((s m ≡ true) × (joined from to m s u (to m) ≡ true) × (joined from to m s (from m) v ≡ true)))
 
-  ways : (m : ℕ) (s : Set) (u v : ℕ) → joined from to (suc m) s u v ≡ true → Ways m s u v
+  pub ways : (m : ℕ) (s : Set) (u v : ℕ) → joined from to (suc m) s u v ≡ true → Ways m s u v
   ways m s u v h =
     split (joined from to m s u v) (s m) (joined from to m s u (from m)) (joined from to m s (to m) v)
     (joined from to m s u (to m)) (joined from to m s (from m) v) (joined-more m s u v)
@@ -46,7 +46,7 @@ module _ (from to : ℕ → ℕ) where
     let k = joined-more m s u v in grind arith
 
   -- what is joined stays joined with one more link
-  joined-step : (m : ℕ) (s : Set) (u v : ℕ) → joined from to m s u v ≡ true → joined from to (suc m) s u v ≡ true
+  pub joined-step : (m : ℕ) (s : Set) (u v : ℕ) → joined from to m s u v ≡ true → joined from to (suc m) s u v ≡ true
   joined-step m s u v h = let k = joined-more m s u v in grind arith
 
   -- a town is joined with itself

@@ -1,3 +1,4 @@
 pub mod Closed
 pub mod Free
 pub mod Joined
+pub mod Rings
