@@ -1,4 +1,5 @@
 pub mod Closed
 pub mod Free
 pub mod Joined
+pub mod Parity
 pub mod Rings
