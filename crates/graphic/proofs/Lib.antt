@@ -1,5 +1,6 @@
 pub mod Closed
 pub mod Free
 pub mod Joined
+pub mod Laws
 pub mod Parity
 pub mod Rings

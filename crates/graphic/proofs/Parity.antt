@@ -6,22 +6,23 @@ use Prim.Native.Nat.{ℕ, zero, suc, _+_, _≤_, _<_}
 use native.Mathlib.Omega.{arith}
 use lib.Dec.{eqb}
 use Rattle.std.proofs.shelf.Tests.{cases-eq, cases-bool, both-ways, eqb-true, eq-eqb, ne-eqb}
+use Rattle.sets.proofs.ClosureTheorem.{free-adds, free-exchanges}
+use Rattle.sets.specs.Bits.{xor}
 use Rattle.sets.specs.Closure.{free}
 use Rattle.sets.specs.Matroid.{Set, pick, with, without, Within}
-use Rattle.graphic.specs.Links.{joined, spanned, differ}
+use Rattle.graphic.specs.Links.{joined, spanned}
 use Rattle.graphic.proofs.Closed.{By, closure, joined-with, with-joined, joined-within}
-use Rattle.graphic.proofs.Free.{free-with, free-within}
 use Rattle.graphic.proofs.Joined.{joined-least, joined-link}
 
 -- two bits that do not differ are the same
-same-bit : (a b : Bool) → differ a b ≡ false → a ≡ b
+same-bit : (a b : Bool) → xor a b ≡ false → a ≡ b
 same-bit a b h = grind arith
 
 -- what differs stays so between bits that are the same as those
-differ-between : (a b c d : Bool) → a ≡ b → c ≡ d → differ b c ≡ true → differ a d ≡ true
+differ-between : (a b c d : Bool) → a ≡ b → c ≡ d → xor b c ≡ true → xor a d ≡ true
 differ-between a b c d h k l = grind arith
 
-differ-turned : (a b : Bool) → differ a b ≡ true → differ b a ≡ true
+differ-turned : (a b : Bool) → xor a b ≡ true → xor b a ≡ true
 differ-turned a b h = grind arith
 
 -- labels that are the same exactly for joined towns
@@ -30,7 +31,7 @@ Labelled from to n towns s lab = (u v : ℕ) → u < towns → v < towns → eqb
 
 -- rows that differ, for the two ends of a link of the set, in that link only
 abbrev pub Paired : (from to : ℕ → ℕ) (n : ℕ) → Set → (ℕ → Set) → Type 0
-Paired from to n s row = (x z : ℕ) → x < n → z < n → s x ≡ true → differ (row (from x) z) (row (to x) z) ≡ eqb z x
+Paired from to n s row = (x z : ℕ) → x < n → z < n → s x ≡ true → xor (row (from x) z) (row (to x) z) ≡ eqb z x
 
 module _ (from to : ℕ → ℕ) (n : ℕ) where
   -- towns that are joined without the link y have the same bit y
@@ -42,7 +43,7 @@ module _ (from to : ℕ → ℕ) (n : ℕ) where
 
   -- towns that are joined only by way of the link y differ in bit y
   rows-differ : (s : Set) (row : ℕ → Set) → Paired from to n s row → (y : ℕ) → y < n → s y ≡ true → (u v : ℕ) →
-    joined from to n s u v ≡ true → joined from to n (without s y) u v ≡ false → differ (row u y) (row v y) ≡ true
+    joined from to n s u v ≡ true → joined from to n (without s y) u v ≡ false → xor (row u y) (row v y) ≡ true
   rows-differ s row h y l k u v j no-way =
     ⊎-elim (λ d. absurd (both-ways (joined from to n (without s y) u v) no-way d))
     (λ r. ⊎-elim
@@ -54,7 +55,7 @@ module _ (from to : ℕ → ℕ) (n : ℕ) where
     where
       agree : (a b : ℕ) → joined from to n (without s y) a b ≡ true → row a y ≡ row b y
       agree = rows-agree s row h y l
-      it : differ (row (from y) y) (row (to y) y) ≡ true
+      it : xor (row (from y) y) (row (to y) y) ≡ true
       it = h y y l l k ∙ eq-eqb y y refl
       back : (x : ℕ) → s x ≡ true → (x ≡ y) ⊎ (x ≡ y → ⊥) → with (without s y) y x ≡ true
       back x e d = ⊎-elim (λ q. grind arith) (λ q. grind arith) d
@@ -62,23 +63,22 @@ module _ (from to : ℕ → ℕ) (n : ℕ) where
   -- a link can be added exactly if the labels of its ends differ
   pub can-add : (s : Set) (x : ℕ) (same : Bool) → x < n → s x ≡ false → free n (spanned from to n) s ≡ true →
     same ≡ joined from to n s (from x) (to x) → not same ≡ free n (spanned from to n) (with s x)
-  can-add s x same l h f e = ap not e ∙ sym (free-with n (spanned from to n) (closure from to n) s x l h f)
+  can-add s x same l h f e = ap not e ∙ sym (free-adds n (spanned from to n) (closure from to n) s x l h f)
 
   -- a link can take the place of y exactly if the labels of its ends differ, or their rows differ in y
   pub can-exchange : (s : Set) (row : ℕ → Set) (x y : ℕ) (same : Bool) → x < n → y < n → s x ≡ false → s y ≡ true →
     free n (spanned from to n) s ≡ true → Paired from to n s row →
     same ≡ joined from to n s (from x) (to x) →
-    (not same || differ (row (from x) y) (row (to x) y)) ≡ free n (spanned from to n) (with (without s y) x)
+    (not same || xor (row (from x) y) (row (to x) y)) ≡ free n (spanned from to n) (with (without s y) x)
   can-exchange s row x y same l m h k f r e =
     answer (joined from to n s (from x) (to x)) (joined from to n (without s y) (from x) (to x)) same
-    (differ (row (from x) y) (row (to x) y)) e
+    (xor (row (from x) y) (row (to x) y)) e
     (joined-within from to n (without s y) s (λ z i w. grind arith) (from x) (to x))
     (rows-differ s row r y m k (from x) (to x))
     (λ w. alike (row (from x) y) (row (to x) y) (rows-agree s row r y m (from x) (to x) w))
-    ∙ sym (free-with n (spanned from to n) (closure from to n) (without s y) x l (grind arith)
-    (free-within n (spanned from to n) (closure from to n) (without s y) s (λ z i w. grind arith) f))
+    ∙ sym (free-exchanges n (spanned from to n) (closure from to n) s y x l h f)
     where
-      alike : (a b : Bool) → a ≡ b → differ a b ≡ false
+      alike : (a b : Bool) → a ≡ b → xor a b ≡ false
       alike a b q = grind arith
       answer : (whole less same bit : Bool) → same ≡ whole → (less ≡ true → whole ≡ true) →
         (whole ≡ true → less ≡ false → bit ≡ true) → (less ≡ true → bit ≡ false) → (not same || bit) ≡ not less
@@ -119,7 +119,7 @@ module _ (from to : ℕ → ℕ) (n : ℕ) where
     ((z : ℕ) → z < n → from z < towns) → ((z : ℕ) → z < n → to z < towns) →
     Labelled from to n towns s lab → joined from to n s (from x) (to x) ≡ false → Paired from to n s old →
     ((t z : ℕ) → t < towns → z < n →
-    new t z ≡ pick (eqb (lab t) (lab (to x))) (differ (old t z) (differ (old (from x) z) (differ (old (to x) z) (eqb z x)))) (old t z)) →
+    new t z ≡ pick (eqb (lab t) (lab (to x))) (xor (old t z) (xor (old (from x) z) (xor (old (to x) z) (eqb z x)))) (old t z)) →
     Paired from to n (with s x) new
   grown-rows towns s x lab old new l p q h no-way r g y z a b e =
     ⊎-elim
@@ -128,17 +128,17 @@ module _ (from to : ℕ → ℕ) (n : ℕ) where
     (eq-eqb (lab (to x)) (lab (to x)) refl)))
     (λ d. let k : s y ≡ true = grind arith in
     there (new (from y) z) (new (to y) z) (old (from y) z) (old (to y) z) (eqb z y)
-    (differ (old (from x) z) (differ (old (to x) z) (eqb z x))) (eqb (lab (from y)) (lab (to x))) (eqb (lab (to y)) (lab (to x)))
+    (xor (old (from x) z) (xor (old (to x) z) (eqb z x))) (eqb (lab (from y)) (lab (to x))) (eqb (lab (to y)) (lab (to x)))
     (g (from y) z (p y a) b) (g (to y) z (q y a) b) (r y z a b k)
     (moved (lab (from y)) (lab (to y)) (lab (to x))
     (h (from y) (to y) (p y a) (q y a) ∙ joined-link from to n s y a k)))
     (cases-eq y x)
     where
-      here : (nf nt of ot it c d : Bool) → nf ≡ pick c (differ of (differ of (differ ot it))) of →
-        nt ≡ pick d (differ ot (differ of (differ ot it))) ot → c ≡ false → d ≡ true → differ nf nt ≡ it
+      here : (nf nt of ot it c d : Bool) → nf ≡ pick c (xor of (xor of (xor ot it))) of →
+        nt ≡ pick d (xor ot (xor of (xor ot it))) ot → c ≡ false → d ≡ true → xor nf nt ≡ it
       here nf nt of ot it c d a b e f = grind arith
-      there : (nf nt of ot it sum c d : Bool) → nf ≡ pick c (differ of sum) of → nt ≡ pick d (differ ot sum) ot →
-        differ of ot ≡ it → c ≡ d → differ nf nt ≡ it
+      there : (nf nt of ot it sum c d : Bool) → nf ≡ pick c (xor of sum) of → nt ≡ pick d (xor ot sum) ot →
+        xor of ot ≡ it → c ≡ d → xor nf nt ≡ it
       there nf nt of ot it sum c d a b e f = grind arith
       moved : (i j k : ℕ) → eqb i j ≡ true → eqb i k ≡ eqb j k
       moved i j k e = grind arith

@@ -11,7 +11,7 @@ use Rattle.std.specs.declared.result.Result.the-variants.{Ok, Err}
 use Rattle.sets.specs.declared.refusal.Refusal.{Refusal}
 use Rattle.sets.specs.declared.refusal.Refusal.the-variants.{Length, Range, Town}
 use Rattle.sets.specs.declared.refusal.Source.the-variants.{Offers}
-use Rattle.sets.specs.Bits.{le2, row-words, word-row}
+use Rattle.sets.specs.Bits.{le2, row-words, word-row, xor}
 use Rattle.sets.specs.Closure.{free}
 use Rattle.sets.specs.Matroid.{Set, Matroid}
 use Rattle.sets.specs.Refusals.{First}
@@ -91,11 +91,6 @@ pub data Fault (file : List ℕ) (n p : ℕ) : Refusal → Type 0 where
   missing : (j : ℕ) → j < 2 * n → p + 2 + 2 * j + 2 ≤ length file → le2 file p ≤ le2 file (p + 2 + 2 * j) →
     Fault file n p (Town (p + 2 + 2 * j))
 
--- one or the other, not both
-abbrev pub differ : Bool → Bool → Bool
-differ true b = not b
-differ false b = b
-
 -- the kept state has a label for each of up to 600 towns, a row of bits to work with, and a row of links for each town
 abbrev pub kept-length : ℕ → ℕ
 kept-length n = 600 + row-words n * 601
@@ -114,7 +109,7 @@ pub record Ready (file : List ℕ) (n towns at : ℕ) (s : Set) (state : List �
   pub labels : (u v : ℕ) → u < towns → v < towns →
     eqb (label state u) (label state v) ≡ joined (from-town file at) (to-town file at) n s u v
   pub rows : (x z : ℕ) → x < n → z < n → s x ≡ true →
-    differ (in-row state n (from-town file at x) z) (in-row state n (to-town file at x) z) ≡ eqb z x
+    xor (in-row state n (from-town file at x) z) (in-row state n (to-town file at x) z) ≡ eqb z x
 
 -- links are a matroid
 abbrev pub Links-matroid : Type 0
