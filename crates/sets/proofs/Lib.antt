@@ -1,0 +1,4 @@
+pub mod Masks
+pub mod Marks
+pub mod Stretches
+pub mod Transfer
