@@ -1,0 +1,3 @@
+pub mod Fits
+pub mod Laws
+pub mod Sizes
