@@ -1,0 +1,3 @@
+pub mod Augment
+pub mod Laws
+pub mod Matchings
