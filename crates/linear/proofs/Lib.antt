@@ -1,0 +1,4 @@
+pub mod Modulo
+pub mod Sums
+pub mod Span
+pub mod Inverse
