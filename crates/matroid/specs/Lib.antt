@@ -1,1 +1,3 @@
+pub mod Exchanges
+pub mod Gains
 pub mod Optimal
