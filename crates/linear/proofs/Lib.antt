@@ -2,3 +2,4 @@ pub mod Modulo
 pub mod Sums
 pub mod Span
 pub mod Inverse
+pub mod Laws
