@@ -3,3 +3,5 @@ pub mod Sums
 pub mod Span
 pub mod Inverse
 pub mod Laws
+pub mod Basis
+pub mod Growth

@@ -155,3 +155,8 @@ unfolding Null Same
 one-not-null p a h e z =
     let f : 1 % p ≡ 1 = mod-eq-of-lt h in
     let g : 0 % p ≡ 0 = zero-mod p in omega arith
+
+-- two that are zero are equal
+pub null-is : (p a : ℕ) → Null p a → Same p a 0
+unfolding Null
+null-is p a h = h

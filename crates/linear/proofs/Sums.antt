@@ -7,8 +7,8 @@ use native.Mathlib.Omega.{arith}
 use lib.Dec.{eqb}
 use Rattle.std.proofs.shelf.Tests.{cases-bool, cases-eq, eq-eqb, ne-eqb}
 use Rattle.sets.specs.Matroid.{Set, pick, weight, without}
-use Rattle.linear.specs.Rows.{dot}
-use Rattle.linear.proofs.Modulo.{Same, Null, same-refl, same-sum, same-multiple, same-from, null-zero, null-sum, null-multiple}
+use Rattle.linear.specs.Kept.{dot}
+use Rattle.linear.proofs.Modulo.{Same, Null, same-refl, same-sum, same-multiple, same-from, same-trans, null-zero, null-sum, null-multiple}
 
 -- one step of a sum over a set, by whether the element is in it
 step-in : (m : ℕ) (w : ℕ → ℕ) (s : Set) → s m ≡ true → weight (suc m) w s ≡ w m + weight m w s
@@ -172,3 +172,15 @@ dot-single (suc l) q k t h = ⊎-elim here (λ ne. there ne (dot-single l q k t 
     there y f =
         let e : eqb l q ≡ false = ne-eqb l q y in
         rw e (omega arith)
+
+-- a functional plus a multiple of another
+pub dot-plus : (l k : ℕ) (f g t : ℕ → ℕ) → dot l (λ j. f j + k * g j) t ≡ dot l f t + k * dot l g t
+dot-plus zero k f g t = omega arith
+dot-plus (suc l) k f g t =
+    let e : dot l (λ j. f j + k * g j) t ≡ dot l f t + k * dot l g t = dot-plus l k f g t in omega arith
+
+-- functionals that are equal modulo p
+pub dot-alike : (p l : ℕ) (f g t : ℕ → ℕ) → ((j : ℕ) → j < l → Same p (f j) (g j)) → Same p (dot l f t) (dot l g t)
+dot-alike p l f g t h =
+    same-trans p (dot l f t) (dot l t f) (dot l g t) (same-from p (dot l f t) (dot l t f) (dot-turned l f t))
+      (same-trans p (dot l t f) (dot l t g) (dot l g t) (dot-same p l t f g h) (same-from p (dot l t g) (dot l g t) (dot-turned l t g)))

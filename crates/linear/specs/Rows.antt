@@ -20,11 +20,6 @@ Allowed file n prime long at s =
     (x : ℕ) → x < n → s x ≡ true → (multiple : ℕ → ℕ) →
     ((j : ℕ) → j < long → weight n (λ i. multiple i * number file long at i j) (without s x) % prime ≡ number file long at x j % prime) → ⊥
 
--- the value of a functional f at a row t: the sum of the products of their first `long` numbers
-abbrev pub dot : ℕ → (ℕ → ℕ) → (ℕ → ℕ) → ℕ
-dot zero f t = 0
-dot (suc long) f t = f long * t long + dot long f t
-
 -- all numbers of a row are zero modulo p
 abbrev pub vanishes : ℕ → ℕ → (ℕ → ℕ) → Bool
 vanishes p zero t = true
