@@ -6,4 +6,5 @@ pub mod MatroidLaws
 pub mod Places
 pub mod Stretches
 pub mod Transfer
+pub mod Stretches
 pub mod Weights
