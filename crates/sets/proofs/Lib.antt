@@ -6,5 +6,4 @@ pub mod MatroidLaws
 pub mod Places
 pub mod Stretches
 pub mod Transfer
-pub mod Stretches
 pub mod Weights
