@@ -3,6 +3,7 @@ use mathlib.Core.Path.{_≡_, refl}
 use mathlib.Core.Bool.{Bool, true, false, _&&_, _||_, not}
 use mathlib.Core.Logic.{_⊎_, inl, inr, ⊎-elim}
 use Prim.Native.Nat.{ℕ, zero, suc, _+_, _≤_, _<_}
+use native.Mathlib.Numerals.{add-one}
 use native.Mathlib.Omega.{arith}
 use lib.Dec.{eqb, leb, ltb}
 use Rattle.std.proofs.shelf.Tests.{cases-bool, both-ways, cases-eq}
@@ -94,3 +95,15 @@ find-below p (suc m) =
     (cases-eq k m)))
     (cases-bool (p m)))
     (find-below p m)
+
+-- no set below n has more than n elements
+pub size-most : (n : ℕ) (a : Set) → size n a ≤ n
+size-most zero a = omega arith
+size-most (suc n) a = let r = size-most n a in grind arith
+
+-- one more element looked at: it is in the set, or it is not
+pub size-in : (k : ℕ) (a : Set) (held : ℕ) → held ≡ size k a → a k ≡ true → held + 1 ≡ size (k + 1) a
+size-in k a held p q = simp add-one (grind arith)
+
+pub size-out : (k : ℕ) (a : Set) (held : ℕ) → held ≡ size k a → a k ≡ false → held ≡ size (k + 1) a
+size-out k a held p q = simp add-one (grind arith)

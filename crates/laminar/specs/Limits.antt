@@ -4,7 +4,7 @@ use mathlib.Core.Bool.{Bool, true, false, _&&_, _||_, not}
 use mathlib.Core.List.{List}
 use mathlib.Core.Logic.{_⊎_}
 use Prim.Native.Nat.{ℕ, zero, suc, _+_, _*_, _≤_, _<_}
-use lib.Dec.{leb, eqb}
+use lib.Dec.{leb, ltb, eqb}
 use lib.ListN.{length, getD}
 use Rattle.sets.specs.Matroid.{Set, size, both, outside, with, without, Within, Matroid}
 use Rattle.sets.specs.Bits.{row, word-row, marked, row-bytes, le2}
@@ -67,9 +67,14 @@ kept-at i = 2 + 2 * i
 pub record Ready (file : List ℕ) (n groups at : ℕ) (s : Set) (state : List ℕ) : Type 0 where
   pub long : kept-length n ≤ length state
   pub allowed : allows file n groups at s ≡ true
-  pub fulls : (g : ℕ) → g < groups → marked state g ≡ full file n at s g
-  pub masks : (i g : ℕ) → i < n → g < groups → word-row state (kept-at i) g ≡ in-group file n at g i
-  pub rest : (i g : ℕ) → i < n → groups ≤ g → g < 64 → word-row state (kept-at i) g ≡ false
+  pub fulls : (g : ℕ) → g < 64 → marked state g ≡ (ltb g groups && full file n at s g)
+  pub masks : (i g : ℕ) → i < n → g < 64 → word-row state (kept-at i) g ≡ (ltb g groups && in-group file n at g i)
+
+-- group g is noted with those of its offers that are below m, and nothing else is changed of what is kept
+pub record Marked (file : List ℕ) (n at g m : ℕ) (old new : List ℕ) : Type 0 where
+  pub fulls : (h : ℕ) → h < 64 → marked new h ≡ marked old h
+  pub masks : (i h : ℕ) → i < n → h < 64 →
+      word-row new (kept-at i) h ≡ (word-row old (kept-at i) h || (eqb h g && ltb i m && in-group file n at g i))
 
 -- the natural reading and the test say the same
 abbrev pub Reading-agrees : Type 0
