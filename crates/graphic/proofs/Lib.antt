@@ -1,7 +1,10 @@
 pub mod Closed
 pub mod Free
 pub mod Joined
+pub mod Kept
 pub mod Laws
+pub mod Merging
 pub mod Parity
 pub mod Reading
 pub mod Rings
+pub mod Rows

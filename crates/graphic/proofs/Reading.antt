@@ -3,7 +3,7 @@ use mathlib.Core.Path.{_≡_, refl, sym, ap, _∙_}
 use mathlib.Core.Bool.{Bool, true, false, cond}
 use mathlib.Core.List.{List}
 use mathlib.Core.Logic.{_⊎_, inl, inr, ⊎-elim}
-use Prim.Native.Nat.{ℕ, zero, suc, _+_, _*_, _/_, _%_, _≤_, _<_}
+use Prim.Native.Nat.{ℕ, zero, suc, _+_, _-_, _*_, _/_, _%_, _≤_, _<_}
 use native.Mathlib.Omega.{arith}
 use lib.Dec.{ltb, leb}
 use lib.ListN.{length}
@@ -30,6 +30,17 @@ stopped true x r e h = inl (refl, cc)
 stopped false x r e h = inr (refl, h)
 
 module _ (file : List ℕ) (towns : ℕ) where
+  -- one town, and then the rest
+  pub towns-step : (count j at : ℕ) → j < count →
+    read-towns file towns (count - j) (at + 2 * j)
+    ≡ cond (ltb (length file) (at + 2 * j + 2)) (Err (Length Offers (length file)))
+    (cond (leb towns (le2 file (at + 2 * j))) (Err (Town (at + 2 * j)))
+    (read-towns file towns (count - (j + 1)) (at + 2 * (j + 1))))
+  towns-step count j at l =
+    let e : count - j ≡ suc (count - (j + 1)) = omega arith in
+    let q : at + 2 * (j + 1) ≡ at + 2 * j + 2 = omega arith in
+    rw (e, q)
+
   -- towns that were read are there, and each is one of them
   towns-ok : (left at c : ℕ) → at ≤ length file → read-towns file towns left at ≡ Ok c →
     (c ≡ towns) × (at + 2 * left ≤ length file) × ((j : ℕ) → j < left → le2 file (at + 2 * j) < towns)
