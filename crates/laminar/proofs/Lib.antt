@@ -3,5 +3,7 @@ pub mod Keeping
 pub mod Kept
 pub mod Laws
 pub mod Moves
+pub mod Nested
+pub mod Reading
 pub mod Sizes
 pub mod Steps

@@ -30,17 +30,20 @@ Overlapping n a b =
     ((x : ℕ) × (x < n) × (a x ≡ true) × (b x ≡ false)) ×
     ((x : ℕ) × (x < n) × (a x ≡ false) × (b x ≡ true))
 
--- all that can be wrong with the rule at p: the bytes end too early; there are too many groups; a limit is too high; a group
--- overlaps an earlier one; a bit behind the last offer is set. What is judged is wholly there
+-- all that can be wrong with group g: its limit is too high, it overlaps an earlier group, a bit behind the last offer is set.
+-- What is judged is wholly there
+pub data Group-fault (file : List ℕ) (n at g : ℕ) : Refusal → Type 0 where
+  high : group-at n at g + 2 ≤ length file → 600 < limit file n at g → Group-fault file n at g (Range Offers (group-at n at g))
+  overlap : (h : ℕ) → h < g → group-at n at g + group-bytes n ≤ length file →
+      Overlapping n (in-group file n at h) (in-group file n at g) → Group-fault file n at g (Overlap (group-at n at g))
+  stray : (i : ℕ) → n ≤ i → i < 8 * row-bytes n → group-at n at g + group-bytes n ≤ length file →
+      in-group file n at g i ≡ true → Group-fault file n at g (Range Offers (group-at n at g + 1 + row-bytes n))
+
+-- all that can be wrong with the rule at p: the bytes end too early, there are too many groups, a group is in fault
 pub data Fault (file : List ℕ) (n p : ℕ) : Refusal → Type 0 where
   cut : length file < end file n p → Fault file n p (Length Offers (length file))
   many : p < length file → 64 < count file p → Fault file n p (Range Offers p)
-  high : (g : ℕ) → g < count file p → group-at n (p + 1) g + 2 ≤ length file → 600 < limit file n (p + 1) g →
-      Fault file n p (Range Offers (group-at n (p + 1) g))
-  overlap : (g h : ℕ) → g < count file p → h < g → group-at n (p + 1) g + group-bytes n ≤ length file →
-      Overlapping n (in-group file n (p + 1) h) (in-group file n (p + 1) g) → Fault file n p (Overlap (group-at n (p + 1) g))
-  stray : (g i : ℕ) → g < count file p → group-at n (p + 1) g + group-bytes n ≤ length file → n ≤ i → i < 8 * row-bytes n →
-      in-group file n (p + 1) g i ≡ true → Fault file n p (Range Offers (group-at n (p + 1) g + 1 + row-bytes n))
+  group : (g : ℕ) (e : Refusal) → g < count file p → Group-fault file n (p + 1) g e → Fault file n p e
 
 -- is an element below n in the set?
 abbrev pub some : ℕ → Set → Bool
@@ -93,4 +96,4 @@ Reads-well =
 
 -- what is refused is refused by the first of its faults
 abbrev pub Refuses-first : Type 0
-Refuses-first = (file : List ℕ) (n p : ℕ) (e : Refusal) → 0 < n → read file n p ≡ Err e → First (Fault file n p) e
+Refuses-first = (file : List ℕ) (n p : ℕ) (e : Refusal) → read file n p ≡ Err e → First (Fault file n p) e

@@ -8,7 +8,7 @@ ghost use lib.ListN.{length, getD};
 ghost use Rattle.sets.specs.Bits.{row, row-bytes, row-words, marked};
 ghost use Rattle.sets.specs.Matroid.{size, both, with, without};
 ghost use Rattle.laminar.specs.Limits.{group-bytes, group-at, limit, in-group, allows, kept-length, Well, Ready, Marked, Reading-agrees, Limits-matroid};
-ghost use Rattle.laminar.specs.Reading.{read, read-group, overlaps, overlaps-below, has-stray};
+ghost use Rattle.laminar.specs.Reading.{read, read-group, overlaps, overlaps-below, has-stray, Reads-well, Refuses-first};
 use sets::bytes;
 use sets::numbers::read_u16;
 use sets::refusal::Refusal;
@@ -240,6 +240,20 @@ pub fn test_says_limits() -> u8
 // A well-formed rule of limits is a matroid.
 pub fn limits_are_a_matroid() -> u8
     ensures { λ _. ⌜ Limits-matroid ⌝ }
+{
+    0
+}
+
+// A rule is read just where its count is there and it is well formed.
+pub fn what_is_read_is_well_formed() -> u8
+    ensures { λ _. ⌜ Reads-well ⌝ }
+{
+    0
+}
+
+// A rule that is refused is refused for the first of its faults.
+pub fn first_fault_is_refused() -> u8
+    ensures { λ _. ⌜ Refuses-first ⌝ }
 {
     0
 }
