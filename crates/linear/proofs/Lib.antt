@@ -3,5 +3,7 @@ pub mod Sums
 pub mod Span
 pub mod Inverse
 pub mod Laws
-pub mod Basis
+pub mod DualBasis
 pub mod Growth
+pub mod Steps
+pub mod Insertion
