@@ -7,3 +7,4 @@ pub mod DualBasis
 pub mod Growth
 pub mod Steps
 pub mod Insertion
+pub mod Answered

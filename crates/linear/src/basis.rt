@@ -6,8 +6,8 @@ ghost use lib.Dec.{eqb};
 ghost use lib.ListN.{length, getD};
 ghost use Rattle.sets.specs.Bits.{marked, row-words, Same-but};
 ghost use Rattle.sets.specs.Matroid.{pick};
-ghost use Rattle.linear.specs.Rows.{number, spanned, Well};
-ghost use Rattle.linear.specs.Kept.{dot, functional, kept-length, rest, fresh, Dual};
+ghost use Rattle.linear.specs.Rows.{number, span, spanned, Well};
+ghost use Rattle.linear.specs.Kept.{dot, functional, flag, kept-length, rest, fresh, Dual};
 use crate::vectors::add_multiple;
 use crate::vectors::chosen;
 use crate::vectors::inverse;
@@ -174,4 +174,51 @@ pub fn insert(
     correct(file, n, prime, len, at, set, state, r, &g);
     words::copy_row(&g, 0, state, 65 * r, len);
     true
+}
+
+// Does the set span row x, by its dual basis?
+fn is_spanned(
+    file: &[u8],
+    n: usize,
+    prime: u64,
+    len: usize,
+    at: usize,
+    set: &[u32],
+    state: &[u32],
+    x: usize,
+) -> bool
+    requires well { ⌜ Well (now file) n prime len at ⌝ }
+    requires rows { ⌜ x < n ⌝ ∗ ⌜ n ≤ 600 ⌝ }
+    requires room { ⌜ row-words n ≤ length (now set) ⌝ ∗ ⌜ kept-length n ≤ length (now state) ⌝ }
+    requires dual { ⌜ Dual prime len (number (now file) len at) (functional (now state)) n (marked (now set)) ⌝ }
+    ensures { λ b. ⌜ b ≡ span (now (file .entry)) n prime len at (marked (now (set .entry))) x ⌝ }
+{
+    let mut sum = [0u32; 64];
+    find_rest(file, n, prime, len, at, set, state, n, x, &mut sum);
+    find_column(&sum, len) == len
+}
+
+// Writes behind each functional whether the set spans the offer's row; the functionals stay a dual basis.
+pub fn note_spanned(
+    file: &[u8],
+    n: usize,
+    prime: u64,
+    len: usize,
+    at: usize,
+    set: &[u32],
+    state: &mut [u32],
+)
+    requires well { ⌜ Well (now file) n prime len at ⌝ ∗ ⌜ n ≤ 600 ⌝ }
+    requires room { ⌜ row-words n ≤ length (now set) ⌝ ∗ ⌜ kept-length n ≤ length (now state) ⌝ }
+    requires dual { ⌜ Dual prime len (number (now file) len at) (functional (now state)) n (marked (now set)) ⌝ }
+    ensures dual { λ _. ⌜ Dual prime len (number (now (file .entry)) len at) (functional (now (state .exit))) n (marked (now (set .entry))) ⌝ }
+    ensures flags { λ _. ⌜ ((x : ℕ) → x < n → flag (now (state .exit)) x ≡ pick (span (now (file .entry)) n prime len at (marked (now (set .entry))) x) 1 0) ⌝ }
+{
+    for x in 0..n {
+        state[65 * x + 64] = if is_spanned(file, n, prime, len, at, set, state, x) {
+            1
+        } else {
+            0
+        };
+    }
 }
