@@ -8,3 +8,4 @@ pub mod Growth
 pub mod Steps
 pub mod Insertion
 pub mod Answered
+pub mod Reading
