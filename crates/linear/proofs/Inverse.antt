@@ -39,14 +39,15 @@ power-one p c prime small low ne =
     let a = all-at 252 (λ q. ltb q 2 || (split q || fermat q)) p table (omega arith) in
     let b : ltb p 2 ≡ false = le-ltb p 2 (omega (arith, prime .0)) in
     ⊎-elim (λ y. absurd (both-ways (ltb p 2) b y))
-      (λ y. ⊎-elim (λ z. absurd (divided z)) (λ z. powers (all-at p (λ d. eqb d 0 || eqb (d ^ (p - 1) % p) 1) c z low)) (or-cases (split p) (fermat p) y))
-      (or-cases (ltb p 2) (split p || fermat p) a)
+    (λ y. ⊎-elim (λ z. absurd (divided z)) (λ z. powers (all-at p (λ d. eqb d 0 || eqb (d ^ (p - 1) % p) 1) c z low)) (or-cases (split p) (fermat p) y))
+    (or-cases (ltb p 2) (split p || fermat p) a)
   where
     divided : split p ≡ true → ⊥
     divided z =
         let r = some-gives p (λ d. ltb 1 d && eqb (p % d) 0) z in
         let q = and-parts (ltb 1 (r .0)) (eqb (p % r .0) 0) (r .2) in
         prime .1 (r .0) (ltb-true 1 (r .0) (q .0)) (r .1) (eqb-true (p % r .0) 0 (q .1))
+
     powers : (eqb c 0 || eqb (c ^ (p - 1) % p) 1) ≡ true → c ^ (p - 1) % p ≡ 1
     powers z =
         ⊎-elim (λ y. absurd (ne (eqb-true c 0 y))) (λ y. eqb-true (c ^ (p - 1) % p) 1 y) (or-cases (eqb c 0) (eqb (c ^ (p - 1) % p) 1) z)
@@ -58,7 +59,7 @@ inverse p c prime small h =
     let e = power-one p (c % p) prime small (mod-lt c pos) (λ z. h (rest-null p c z)) in
     let f : (c % p) ^ (p - 1) ≡ (c % p) ^ (p - 2) * (c % p) = ap (λ k. (c % p) ^ k) (less p (prime .0)) ∙ pow-suc (c % p) (p - 2) in
     same-trans p ((c % p) ^ (p - 2) * c) ((c % p) ^ (p - 2) * (c % p)) 1 (same-multiple p ((c % p) ^ (p - 2)) c (c % p) (same-sym p (c % p) c (same-rest p c)))
-      (is-same p ((c % p) ^ (p - 2) * (c % p)) 1 (ap (λ x. x % p) (sym f) ∙ e ∙ sym (mod-eq-of-lt (prime .0))))
+    (is-same p ((c % p) ^ (p - 2) * (c % p)) 1 (ap (λ x. x % p) (sym f) ∙ e ∙ sym (mod-eq-of-lt (prime .0))))
   where
     less : (p : ℕ) → 1 < p → p - 1 ≡ suc (p - 2)
     less p h = omega arith

@@ -28,10 +28,13 @@ spans-exchange p l rows n s x y prime small lx ly not-in a = ⊎-elim old new (c
   where
     pos : 0 < p
     pos = omega (arith, prime .0)
+
     c : ℕ → ℕ
     c = a .multiple
+
     rest : ℕ → ℕ
     rest j = weight n (λ i. c i * rows i j) s
+
     old : s x ≡ true → Spans p l rows n (with s y) (rows x)
     old h =
         absurd
@@ -41,11 +44,12 @@ spans-exchange p l rows n s x y prime small lx ly not-in a = ⊎-elim old new (c
           none =
               λ j k.
               let e = weight-set n (λ i. c i * rows i j) s (with s x) (λ i q. inside i (eqb i x) (λ f. ap s f ∙ h) refl) in
-              null-equal p (rows y j + weight n (λ i. c i * rows i j) s) (rows y j + weight n (λ i. c i * rows i j) (with s x)) (ap (λ v. rows y j + v) e) (a .none j k)
+              null-equal p (rows y j + weight n (λ i. c i * rows i j) s) (rows y j + weight n (λ i. c i * rows i j) (with s x)) (ap (λ v. rows y j + v) e) (a .none j k);
         }))
       where
         inside : (i : ℕ) (b : Bool) → (i ≡ x → s i ≡ true) → eqb i x ≡ b → s i ≡ with s x i
         inside i b f e = grind arith
+
     parted : s x ≡ false → (j : ℕ) → j < l → Null p (rows y j + (c x * rows x j + rest j))
     parted h j k =
         let w : ℕ → ℕ = λ i. c i * rows i j in
@@ -55,6 +59,7 @@ spans-exchange p l rows n s x y prime small lx ly not-in a = ⊎-elim old new (c
       where
         back : (i : ℕ) → (i ≡ x → s i ≡ false) → without (with s x) x i ≡ s i
         back i f = grind arith
+
     new : s x ≡ false → Spans p l rows n (with s y) (rows x)
     new h = ⊎-elim (λ z. absurd (not-in (idle z))) moved (null-cases p (c x) pos)
       where
@@ -65,28 +70,29 @@ spans-exchange p l rows n s x y prime small lx ly not-in a = ⊎-elim old new (c
               none =
                   λ j k.
                   null-cancel p (rows y j + rest j) (rows x j * c x)
-                    (null-equal p (rows y j + rest j + rows x j * c x) (rows y j + (c x * rows x j + rest j)) (omega arith) (parted h j k))
-                    (null-multiple p (rows x j) (c x) z)
+                  (null-equal p (rows y j + rest j + rows x j * c x) (rows y j + (c x * rows x j + rest j)) (omega arith) (parted h j k))
+                  (null-multiple p (rows x j) (c x) z);
             }
+
         moved : (Null p (c x) → ⊥) → Spans p l rows n (with s y) (rows x)
         moved z =
             let k = (c x % p) ^ (p - 2) in
             let e : Same p (k * c x) 1 = inverse p (c x) prime small z in
             let g : Spans p l rows n (with s y) (λ j. rows y j + rest j) =
-              spans-sum p l rows n (with s y) (rows y) rest (spans-member p l rows n (with s y) y pos ly (let r = eq-eqb y y refl in grind arith))
-                (spans-mix p l rows n (with s y) n c s (λ i q r. spans-member p l rows n (with s y) i pos q (grind arith))) in
+            spans-sum p l rows n (with s y) (rows y) rest (spans-member p l rows n (with s y) y pos ly (let r = eq-eqb y y refl in grind arith))
+            (spans-mix p l rows n (with s y) n c s (λ i q r. spans-member p l rows n (with s y) i pos q (grind arith))) in
             let f : Spans p l rows n (with s y) (λ j. c x * rows x j) =
-              spans-cancel p l rows n (with s y) (λ j. c x * rows x j) (λ j. rows y j + rest j) pos
-                (spans-none p l rows n (with s y) (λ j. c x * rows x j + (rows y j + rest j))
-                  (λ j q. null-equal p (c x * rows x j + (rows y j + rest j)) (rows y j + (c x * rows x j + rest j)) (omega arith) (parted h j q)))
-                g in
+            spans-cancel p l rows n (with s y) (λ j. c x * rows x j) (λ j. rows y j + rest j) pos
+            (spans-none p l rows n (with s y) (λ j. c x * rows x j + (rows y j + rest j))
+            (λ j q. null-equal p (c x * rows x j + (rows y j + rest j)) (rows y j + (c x * rows x j + rest j)) (omega arith) (parted h j q)))
+            g in
             spans-same p l rows n (with s y) (rows x) (λ j. k * (c x * rows x j))
-              (λ j q.
-               same-trans p (rows x j) (rows x j * (k * c x)) (k * (c x * rows x j))
-                 (same-sym p (rows x j * (k * c x)) (rows x j)
-                   (same-trans p (rows x j * (k * c x)) (rows x j * 1) (rows x j) (same-multiple p (rows x j) (k * c x) 1 e) (same-from p (rows x j * 1) (rows x j) (omega arith))))
-                 (same-from p (rows x j * (k * c x)) (k * (c x * rows x j)) (omega arith)))
-              (spans-times p l rows n (with s y) k (λ j. c x * rows x j) f)
+            (λ j q.
+            same-trans p (rows x j) (rows x j * (k * c x)) (k * (c x * rows x j))
+            (same-sym p (rows x j * (k * c x)) (rows x j)
+            (same-trans p (rows x j * (k * c x)) (rows x j * 1) (rows x j) (same-multiple p (rows x j) (k * c x) 1 e) (same-from p (rows x j * 1) (rows x j) (omega arith))))
+            (same-from p (rows x j * (k * c x)) (k * (c x * rows x j)) (omega arith)))
+            (spans-times p l rows n (with s y) k (λ j. c x * rows x j) f)
 
 module _ (file : List ℕ) (n prime long at : ℕ) (well : Well file n prime long at) where
   -- a prime is not zero
@@ -114,8 +120,8 @@ module _ (file : List ℕ) (n prime long at : ℕ) (well : Well file n prime lon
         exchange =
             λ s x y lx ly out a.
             span-from (with s y) x
-              (spans-exchange prime long rows n s x y (well .is-prime) (well .prime-small) lx ly
-                (λ b. both-ways (span file n prime long at s y) out (span-from s y b)) (span-gives (with s x) y a))
+            (spans-exchange prime long rows n s x y (well .is-prime) (well .prime-small) lx ly
+            (λ b. both-ways (span file n prime long at s y) out (span-from s y b)) (span-gives (with s x) y a));
       }
 
   -- the rule is a matroid
@@ -131,8 +137,8 @@ module _ (file : List ℕ) (n prime long at : ℕ) (well : Well file n prime lon
   sum-spans s x c h =
       let rows = number file long at in
       spans-same prime long rows n s (rows x) (λ j. weight n (λ i. c i * rows i j) s)
-        (λ j k. is-same prime (rows x j) (weight n (λ i. c i * rows i j) s) (sym (h j k)))
-        (spans-mix prime long rows n s n c s (λ i q r. spans-member prime long rows n s i prime-pos q r))
+      (λ j k. is-same prime (rows x j) (weight n (λ i. c i * rows i j) s) (sym (h j k)))
+      (spans-mix prime long rows n s n c s (λ i q r. spans-member prime long rows n s i prime-pos q r))
 
   pub spans-total :
       (s : Set) (x : ℕ) → Spans prime long (number file long at) n s (number file long at x) →
@@ -141,17 +147,20 @@ module _ (file : List ℕ) (n prime long at : ℕ) (well : Well file n prime lon
     where
       rows : ℕ → ℕ → ℕ
       rows = number file long at
+
       d : ℕ → ℕ
       d = a .multiple
+
       less : (p a b : ℕ) → 0 < p → (p - 1) * b + (a + b) ≡ a + p * b
       less zero a b pos = absurd (omega arith)
       less (suc q) a b pos =
           let e : suc q - 1 ≡ q = omega arith in rw e (omega arith)
+
       each : (j : ℕ) → j < long → weight n (λ i. (prime - 1) * d i * rows i j) s % prime ≡ rows x j % prime
       each j k =
           let w = weight n (λ i. d i * rows i j) s in
           let e : weight n (λ i. (prime - 1) * d i * rows i j) s ≡ weight n (λ i. (prime - 1) * (d i * rows i j)) s =
-            weight-equal n (λ i. (prime - 1) * d i * rows i j) (λ i. (prime - 1) * (d i * rows i j)) s (λ i q r. omega arith) in
+          weight-equal n (λ i. (prime - 1) * d i * rows i j) (λ i. (prime - 1) * (d i * rows i j)) s (λ i q r. omega arith) in
           let f : weight n (λ i. (prime - 1) * (d i * rows i j)) s ≡ (prime - 1) * w = weight-times n (prime - 1) (λ i. d i * rows i j) s in
           let g : Same prime ((prime - 1) * w + (rows x j + w)) ((prime - 1) * w) = same-null prime ((prime - 1) * w) (rows x j + w) (a .none j k) in
           let h : Same prime (rows x j + prime * w) (rows x j) = same-null prime (rows x j) (prime * w) (null-p prime w) in
@@ -163,16 +172,16 @@ module _ (file : List ℕ) (n prime long at : ℕ) (well : Well file n prime lon
   unfolding allows
   natural-passes s h =
       free-all n (span file n prime long at) s
-        (λ x l i.
-         ⊎-elim (λ y. let t = spans-total (without s x) x (span-gives (without s x) x y) in absurd (h x l i (t .0) (t .1))) (λ y. y)
-           (cases-bool (span file n prime long at (without s x) x)))
+      (λ x l i.
+      ⊎-elim (λ y. let t = spans-total (without s x) x (span-gives (without s x) x y) in absurd (h x l i (t .0) (t .1))) (λ y. y)
+      (cases-bool (span file n prime long at (without s x) x)))
 
   -- and what passes the test has it
   pub passes-natural : (s : Set) → allows file n prime long at s ≡ true → Allowed file n prime long at s
   unfolding allows
   passes-natural s h x l i c t =
       both-ways (span file n prime long at (without s x) x) (free-each n (span file n prime long at) s h x l i)
-        (span-from (without s x) x (sum-spans (without s x) x c t))
+      (span-from (without s x) x (sum-spans (without s x) x c t))
 
 -- the two theorems in the specification's words
 pub rows-matroid : Rows-matroid

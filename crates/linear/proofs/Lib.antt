@@ -3,5 +3,9 @@ pub mod Sums
 pub mod Span
 pub mod Inverse
 pub mod Laws
-pub mod Basis
+pub mod DualBasis
 pub mod Growth
+pub mod Steps
+pub mod Insertion
+pub mod Answered
+pub mod Reading

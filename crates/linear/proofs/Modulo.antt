@@ -72,12 +72,12 @@ same-cancel p a b c d pos g h =
     let v : c + (b + c * (p - 1)) ≡ b + p * c = omega (arith, times p b c pos) in
     let w : b + d + c * (p - 1) ≡ d + (b + c * (p - 1)) = omega arith in
     same-trans p a (a + p * c) b (same-sym p (a + p * c) a (same-more p a c))
-      (same-trans p (a + p * c) (b + p * c) b
-        (same-trans p (a + p * c) (a + c + c * (p - 1)) (b + p * c) (same-from p (a + p * c) (a + c + c * (p - 1)) (sym u))
-          (same-trans p (a + c + c * (p - 1)) (b + d + c * (p - 1)) (b + p * c) e
-            (same-trans p (b + d + c * (p - 1)) (d + (b + c * (p - 1))) (b + p * c) (same-from p (b + d + c * (p - 1)) (d + (b + c * (p - 1))) w)
-              (same-trans p (d + (b + c * (p - 1))) (c + (b + c * (p - 1))) (b + p * c) f (same-from p (c + (b + c * (p - 1))) (b + p * c) v)))))
-        (same-more p b c))
+    (same-trans p (a + p * c) (b + p * c) b
+    (same-trans p (a + p * c) (a + c + c * (p - 1)) (b + p * c) (same-from p (a + p * c) (a + c + c * (p - 1)) (sym u))
+    (same-trans p (a + c + c * (p - 1)) (b + d + c * (p - 1)) (b + p * c) e
+    (same-trans p (b + d + c * (p - 1)) (d + (b + c * (p - 1))) (b + p * c) (same-from p (b + d + c * (p - 1)) (d + (b + c * (p - 1))) w)
+    (same-trans p (d + (b + c * (p - 1))) (c + (b + c * (p - 1))) (b + p * c) f (same-from p (c + (b + c * (p - 1))) (b + p * c) v)))))
+    (same-more p b c))
   where
     times : (p a c : ℕ) → 0 < p → a + c + c * (p - 1) ≡ a + p * c
     times zero a c pos = absurd (omega arith)

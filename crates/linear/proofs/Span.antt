@@ -27,7 +27,7 @@ module _ (p l : ℕ) (rows : ℕ → ℕ → ℕ) (m : ℕ) (s : Set) where
   spans-none t h =
       record {
         multiple = λ i. 0;
-        none = λ j k. null-equal p (t j + weight m (λ i. 0 * rows i j) s) (t j) (let e = weight-times m 0 (λ i. rows i j) s in omega arith) (h j k)
+        none = λ j k. null-equal p (t j + weight m (λ i. 0 * rows i j) s) (t j) (let e = weight-times m 0 (λ i. rows i j) s in omega arith) (h j k);
       }
 
   -- the sum of two
@@ -40,11 +40,11 @@ module _ (p l : ℕ) (rows : ℕ → ℕ → ℕ) (m : ℕ) (s : Set) where
             let c = a .multiple in
             let d = b .multiple in
             let e : weight m (λ i. (c i + d i) * rows i j) s ≡ weight m (λ i. c i * rows i j + d i * rows i j) s =
-              weight-equal m (λ i. (c i + d i) * rows i j) (λ i. c i * rows i j + d i * rows i j) s (λ i q h. omega arith) in
+            weight-equal m (λ i. (c i + d i) * rows i j) (λ i. c i * rows i j + d i * rows i j) s (λ i q h. omega arith) in
             let f = weight-sum m (λ i. c i * rows i j) (λ i. d i * rows i j) s in
             null-equal p (t j + u j + weight m (λ i. (c i + d i) * rows i j) s)
-              (t j + weight m (λ i. c i * rows i j) s + (u j + weight m (λ i. d i * rows i j) s)) (omega arith)
-              (null-sum p (t j + weight m (λ i. c i * rows i j) s) (u j + weight m (λ i. d i * rows i j) s) (a .none j k) (b .none j k))
+            (t j + weight m (λ i. c i * rows i j) s + (u j + weight m (λ i. d i * rows i j) s)) (omega arith)
+            (null-sum p (t j + weight m (λ i. c i * rows i j) s) (u j + weight m (λ i. d i * rows i j) s) (a .none j k) (b .none j k));
       }
 
   -- a multiple
@@ -56,10 +56,10 @@ module _ (p l : ℕ) (rows : ℕ → ℕ → ℕ) (m : ℕ) (s : Set) where
             λ j q.
             let c = a .multiple in
             let e : weight m (λ i. k * c i * rows i j) s ≡ weight m (λ i. k * (c i * rows i j)) s =
-              weight-equal m (λ i. k * c i * rows i j) (λ i. k * (c i * rows i j)) s (λ i r h. omega arith) in
+            weight-equal m (λ i. k * c i * rows i j) (λ i. k * (c i * rows i j)) s (λ i r h. omega arith) in
             let f = weight-times m k (λ i. c i * rows i j) s in
             null-equal p (k * t j + weight m (λ i. k * c i * rows i j) s) (k * (t j + weight m (λ i. c i * rows i j) s)) (omega arith)
-              (null-multiple p k (t j + weight m (λ i. c i * rows i j) s) (a .none j q))
+            (null-multiple p k (t j + weight m (λ i. c i * rows i j) s) (a .none j q));
       }
 
   -- a row that is equal modulo p
@@ -70,7 +70,7 @@ module _ (p l : ℕ) (rows : ℕ → ℕ → ℕ) (m : ℕ) (s : Set) where
         none =
             λ j k.
             let w = weight m (λ i. a .multiple i * rows i j) s in
-            null-same p (t j + w) (u j + w) (same-sum p (t j) (u j) w w (h j k) (same-refl p w)) (a .none j k)
+            null-same p (t j + w) (u j + w) (same-sum p (t j) (u j) w w (h j k) (same-refl p w)) (a .none j k);
       }
 
   -- what is left when a spanned row is taken away
@@ -78,10 +78,10 @@ module _ (p l : ℕ) (rows : ℕ → ℕ → ℕ) (m : ℕ) (s : Set) where
   spans-cancel t u pos a b =
       let d = spans-sum (λ j. t j + u j) (λ j. (p - 1) * u j) a (spans-times (p - 1) u b) in
       spans-same t (λ j. t j + u j + (p - 1) * u j)
-        (λ j k.
-         same-trans p (t j) (t j + p * u j) (t j + u j + (p - 1) * u j) (same-sym p (t j + p * u j) (t j) (same-more p (t j) (u j)))
-           (same-from p (t j + p * u j) (t j + u j + (p - 1) * u j) (times p (t j) (u j) pos)))
-        d
+      (λ j k.
+      same-trans p (t j) (t j + p * u j) (t j + u j + (p - 1) * u j) (same-sym p (t j + p * u j) (t j) (same-more p (t j) (u j)))
+      (same-from p (t j + p * u j) (t j + u j + (p - 1) * u j) (times p (t j) (u j) pos)))
+      d
     where
       times : (p a c : ℕ) → 0 < p → a + p * c ≡ a + c + (p - 1) * c
       times zero a c pos = absurd (omega arith)
@@ -100,12 +100,13 @@ module _ (p l : ℕ) (rows : ℕ → ℕ → ℕ) (m : ℕ) (s : Set) where
             let f : w x ≡ (p - 1) * rows x j = ap (λ b. pick b (p - 1) 0 * rows x j) (eq-eqb x x refl) in
             let g : Null p (weight m w (without s x)) = weight-null p m w (without s x) (λ i q y. null-equal p (w i) 0 (other i j y) (null-zero p)) in
             null-equal p (rows x j + weight m w s) (p * rows x j + weight m w (without s x)) (joined p (rows x j) (w x) (weight m w s) (weight m w (without s x)) pos f e)
-              (null-sum p (p * rows x j) (weight m w (without s x)) (null-p p (rows x j)) g)
+            (null-sum p (p * rows x j) (weight m w (without s x)) (null-p p (rows x j)) g);
       }
     where
       other : (i j : ℕ) → without s x i ≡ true → pick (eqb i x) (p - 1) 0 * rows i j ≡ 0
       other i j y =
           let e : eqb i x ≡ false = grind arith in rw e (omega arith)
+
       joined : (p a b c d : ℕ) → 0 < p → b ≡ (p - 1) * a → c ≡ b + d → a + c ≡ p * a + d
       joined zero a b c d pos f e = absurd (omega arith)
       joined (suc q) a b c d pos f e =
@@ -119,7 +120,7 @@ module _ (p l : ℕ) (rows : ℕ → ℕ → ℕ) (m : ℕ) (s : Set) where
   spans-mix zero d b h = spans-none (λ j. 0) (λ j q. null-zero p)
   spans-mix (suc k) d b h =
       spans-sum (λ j. pick (b k) (d k * rows k j) 0) (λ j. weight k (λ i. d i * rows i j) b) (go (b k) (h k (omega arith)))
-        (spans-mix k d b (λ x q. h x (omega arith)))
+      (spans-mix k d b (λ x q. h x (omega arith)))
     where
       go : (v : Bool) → (v ≡ true → Spans p l rows m s (rows k)) → Spans p l rows m s (λ j. pick v (d k * rows k j) 0)
       go true f = spans-times (d k) (rows k) (f refl)
@@ -131,8 +132,8 @@ pub spans-through :
     ((x : ℕ) → x < k → b x ≡ true → Spans p l rows m s (rows x)) → Spans p l rows k b t → Spans p l rows m s t
 spans-through p l rows m s k b t pos h a =
     spans-cancel p l rows m s t (λ j. weight k (λ i. a .multiple i * rows i j) b) pos
-      (spans-none p l rows m s (λ j. t j + weight k (λ i. a .multiple i * rows i j) b) (a .none))
-      (spans-mix p l rows m s k (a .multiple) b h)
+    (spans-none p l rows m s (λ j. t j + weight k (λ i. a .multiple i * rows i j) b) (a .none))
+    (spans-mix p l rows m s k (a .multiple) b h)
 
 -- a test below k that some number passes
 pub some-from : (k : ℕ) (test : ℕ → Bool) (c : ℕ) → c < k → test c ≡ true → some k test ≡ true
@@ -145,14 +146,14 @@ pub some-gives : (k : ℕ) (test : ℕ → Bool) → some k test ≡ true → (c
 some-gives zero test h = absurd (grind arith)
 some-gives (suc k) test h =
     ⊎-elim (λ y. (k, omega arith, y)) (λ y. let r = some-gives k test y in (r .0, omega (arith, r .1), r .2))
-      (or-cases (test k) (some k test) h)
+    (or-cases (test k) (some k test) h)
 
 -- all places of a row are zero
 pub vanishes-from : (p l : ℕ) (t : ℕ → ℕ) → 0 < p → ((j : ℕ) → j < l → Null p (t j)) → vanishes p l t ≡ true
 vanishes-from p zero t pos h = refl
 vanishes-from p (suc l) t pos h =
     and-from (eqb (t l % p) 0) (vanishes p l t) (eq-eqb (t l % p) 0 (null-rest p (t l) pos (h l (omega arith))))
-      (vanishes-from p l t pos (λ j k. h j (omega arith)))
+    (vanishes-from p l t pos (λ j k. h j (omega arith)))
 
 pub vanishes-gives : (p l : ℕ) (t : ℕ → ℕ) → vanishes p l t ≡ true → (j : ℕ) → j < l → Null p (t j)
 vanishes-gives p zero t h j k = absurd (omega arith)
@@ -174,12 +175,13 @@ spanned-gives p l rows s (suc m) t h =
               λ j k.
               let w : ℕ → ℕ = λ i. pick (eqb i m) c (a .multiple i) * rows i j in
               let e : weight m w s ≡ weight m (λ i. a .multiple i * rows i j) s =
-                weight-equal m w (λ i. a .multiple i * rows i j) s
-                  (λ i q z. ap (λ b. pick b c (a .multiple i) * rows i j) (ne-eqb i m (λ r. omega arith))) in
+              weight-equal m w (λ i. a .multiple i * rows i j) s
+              (λ i q z. ap (λ b. pick b c (a .multiple i) * rows i j) (ne-eqb i m (λ r. omega arith))) in
               let f : w m ≡ c * rows m j = ap (λ b. pick b c (a .multiple m) * rows m j) (eq-eqb m m refl) in
               let g : pick (s m) (w m) 0 ≡ w m = ap (λ b. pick b (w m) 0) y in
-              null-equal p (t j + (pick (s m) (w m) 0 + weight m w s)) (t j + c * rows m j + weight m (λ i. a .multiple i * rows i j) s) (omega arith) (a .none j k)
+              null-equal p (t j + (pick (s m) (w m) 0 + weight m w s)) (t j + c * rows m j + weight m (λ i. a .multiple i * rows i j) s) (omega arith) (a .none j k);
         }
+
     kept : s m ≡ false → Spans p l rows m s t → Spans p l rows (suc m) s t
     kept y a =
         record {
@@ -188,8 +190,9 @@ spanned-gives p l rows s (suc m) t h =
               λ j k.
               let w : ℕ → ℕ = λ i. a .multiple i * rows i j in
               let g : pick (s m) (w m) 0 ≡ 0 = ap (λ b. pick b (w m) 0) y in
-              null-equal p (t j + (pick (s m) (w m) 0 + weight m w s)) (t j + weight m w s) (omega arith) (a .none j k)
+              null-equal p (t j + (pick (s m) (w m) 0 + weight m w s)) (t j + weight m w s) (omega arith) (a .none j k);
         }
+
     go :
         (b : Bool) → s m ≡ b → pick b (some p (λ c. spanned p l rows s m (λ j. t j + c * rows m j))) (spanned p l rows s m t) ≡ true →
         ((u : ℕ → ℕ) → spanned p l rows s m u ≡ true → Spans p l rows m s u) → Spans p l rows (suc m) s t
@@ -206,6 +209,7 @@ spanned-from p l rows s (suc m) t pos a = go (s m) refl (λ u. spanned-from p l 
   where
     c : ℕ → ℕ
     c = a .multiple
+
     chosen : s m ≡ true → Spans p l rows m s (λ j. t j + c m % p * rows m j)
     chosen y =
         record {
@@ -215,14 +219,15 @@ spanned-from p l rows s (suc m) t pos a = go (s m) refl (λ u. spanned-from p l 
               let w : ℕ → ℕ = λ i. c i * rows i j in
               let g : pick (s m) (w m) 0 ≡ w m = ap (λ b. pick b (w m) 0) y in
               let e : Same p (c m % p * rows m j) (c m * rows m j) =
-                same-trans p (c m % p * rows m j) (rows m j * (c m % p)) (c m * rows m j) (same-from p (c m % p * rows m j) (rows m j * (c m % p)) (omega arith))
-                  (same-trans p (rows m j * (c m % p)) (rows m j * c m) (c m * rows m j) (same-multiple p (rows m j) (c m % p) (c m) (same-rest p (c m)))
-                    (same-from p (rows m j * c m) (c m * rows m j) (omega arith))) in
+              same-trans p (c m % p * rows m j) (rows m j * (c m % p)) (c m * rows m j) (same-from p (c m % p * rows m j) (rows m j * (c m % p)) (omega arith))
+              (same-trans p (rows m j * (c m % p)) (rows m j * c m) (c m * rows m j) (same-multiple p (rows m j) (c m % p) (c m) (same-rest p (c m)))
+              (same-from p (rows m j * c m) (c m * rows m j) (omega arith))) in
               null-same p (t j + c m % p * rows m j + weight m w s) (t j + c m * rows m j + weight m w s)
-                (same-sum p (t j + c m % p * rows m j) (t j + c m * rows m j) (weight m w s) (weight m w s)
-                  (same-sum p (t j) (t j) (c m % p * rows m j) (c m * rows m j) (same-refl p (t j)) e) (same-refl p (weight m w s)))
-                (null-equal p (t j + c m * rows m j + weight m w s) (t j + (pick (s m) (w m) 0 + weight m w s)) (omega arith) (a .none j k))
+              (same-sum p (t j + c m % p * rows m j) (t j + c m * rows m j) (weight m w s) (weight m w s)
+              (same-sum p (t j) (t j) (c m % p * rows m j) (c m * rows m j) (same-refl p (t j)) e) (same-refl p (weight m w s)))
+              (null-equal p (t j + c m * rows m j + weight m w s) (t j + (pick (s m) (w m) 0 + weight m w s)) (omega arith) (a .none j k));
         }
+
     kept : s m ≡ false → Spans p l rows m s t
     kept y =
         record {
@@ -231,12 +236,13 @@ spanned-from p l rows s (suc m) t pos a = go (s m) refl (λ u. spanned-from p l 
               λ j k.
               let w : ℕ → ℕ = λ i. c i * rows i j in
               let g : pick (s m) (w m) 0 ≡ 0 = ap (λ b. pick b (w m) 0) y in
-              null-equal p (t j + weight m w s) (t j + (pick (s m) (w m) 0 + weight m w s)) (omega arith) (a .none j k)
+              null-equal p (t j + weight m w s) (t j + (pick (s m) (w m) 0 + weight m w s)) (omega arith) (a .none j k);
         }
+
     go :
         (b : Bool) → s m ≡ b → ((u : ℕ → ℕ) → Spans p l rows m s u → spanned p l rows s m u ≡ true) →
         pick b (some p (λ d. spanned p l rows s m (λ j. t j + d * rows m j))) (spanned p l rows s m t) ≡ true
     go true y f =
         some-from p (λ d. spanned p l rows s m (λ j. t j + d * rows m j)) (c m % p) (mod-lt (c m) pos)
-          (f (λ j. t j + c m % p * rows m j) (chosen y))
+        (f (λ j. t j + c m % p * rows m j) (chosen y))
     go false y f = f t (kept y)

@@ -24,7 +24,7 @@ weight-equal (suc m) w v s h =
     let e : weight m w s ≡ weight m v s = weight-equal m w v s (λ i l. h i (omega arith)) in
     let f = h m (omega arith) in
     ⊎-elim (λ y. step-in m w s y ∙ (let g = f y in omega arith) ∙ sym (step-in m v s y))
-      (λ y. step-out m w s y ∙ e ∙ sym (step-out m v s y)) (cases-bool (s m))
+    (λ y. step-out m w s y ∙ e ∙ sym (step-out m v s y)) (cases-bool (s m))
 
 -- the same modulo p
 pub weight-same : (p m : ℕ) (w v : ℕ → ℕ) (s : Set) → ((i : ℕ) → i < m → s i ≡ true → Same p (w i) (v i)) → Same p (weight m w s) (weight m v s)
@@ -85,6 +85,7 @@ weight-at (suc m) x w s l h = ⊎-elim here (λ ne. there ne (weight-at m x w s 
     past : (k : ℕ) → k ≤ x → weight k w s ≡ weight k w (without s x)
     past k le =
         weight-set k w s (without s x) (λ i l. let e : eqb i x ≡ false = ne-eqb i x (λ q. omega arith) in grind arith)
+
     here : m ≡ x → weight (suc m) w s ≡ w x + weight (suc m) w (without s x)
     here e =
         let f : weight m w s ≡ weight m w (without s x) = past m (omega arith) in
@@ -94,6 +95,7 @@ weight-at (suc m) x w s l h = ⊎-elim here (λ ne. there ne (weight-at m x w s 
         let c : w m ≡ w x = ap w e in
         let d = step-in m w s a in
         let k = step-out m w (without s x) b in omega arith
+
     there : (m ≡ x → ⊥) → weight m w s ≡ w x + weight m w (without s x) → weight (suc m) w s ≡ w x + weight (suc m) w (without s x)
     there ne e =
         let g : eqb m x ≡ false = ne-eqb m x ne in
@@ -112,7 +114,7 @@ pub dot-same : (p l : ℕ) (f t u : ℕ → ℕ) → ((j : ℕ) → j < l → Sa
 dot-same p zero f t u h = same-refl p 0
 dot-same p (suc l) f t u h =
     same-sum p (f l * t l) (f l * u l) (dot l f t) (dot l f u) (same-multiple p (f l) (t l) (u l) (h l (omega arith)))
-      (dot-same p l f t u (λ j k. h j (omega arith)))
+    (dot-same p l f t u (λ j k. h j (omega arith)))
 
 -- a functional at a row of zeros
 pub dot-null : (p l : ℕ) (f t : ℕ → ℕ) → ((j : ℕ) → j < l → Null p (t j)) → Null p (dot l f t)
@@ -136,7 +138,7 @@ dot-mix zero m f t c rows s =
 dot-mix (suc l) m f t c rows s =
     let e = dot-mix l m f t c rows s in
     let a : weight m (λ i. c i * (f l * rows i l + dot l f (rows i))) s ≡ weight m (λ i. f l * (c i * rows i l) + c i * dot l f (rows i)) s =
-      weight-equal m (λ i. c i * (f l * rows i l + dot l f (rows i))) (λ i. f l * (c i * rows i l) + c i * dot l f (rows i)) s (λ i q h. omega arith) in
+    weight-equal m (λ i. c i * (f l * rows i l + dot l f (rows i))) (λ i. f l * (c i * rows i l) + c i * dot l f (rows i)) s (λ i q h. omega arith) in
     let b = weight-sum m (λ i. f l * (c i * rows i l)) (λ i. c i * dot l f (rows i)) s in
     let d = weight-times m (f l) (λ i. c i * rows i l) s in omega arith
 
@@ -162,12 +164,14 @@ dot-single (suc l) q k t h = ⊎-elim here (λ ne. there ne (dot-single l q k t 
         let e : eqb m q ≡ false = ne-eqb m q (λ y. omega arith) in
         let f : dot m (λ j. pick (eqb j q) k 0) t ≡ 0 = none m (omega arith) in
         rw e (omega arith)
+
     here : l ≡ q → dot (suc l) (λ j. pick (eqb j q) k 0) t ≡ k * t q
     here y =
         let e : eqb l q ≡ true = eq-eqb l q y in
         let f : dot l (λ j. pick (eqb j q) k 0) t ≡ 0 = none l (omega arith) in
         let g : k * t l ≡ k * t q = ap (λ x. k * t x) y in
         rw e (omega arith)
+
     there : (l ≡ q → ⊥) → dot l (λ j. pick (eqb j q) k 0) t ≡ k * t q → dot (suc l) (λ j. pick (eqb j q) k 0) t ≡ k * t q
     there y f =
         let e : eqb l q ≡ false = ne-eqb l q y in
@@ -183,4 +187,4 @@ dot-plus (suc l) k f g t =
 pub dot-alike : (p l : ℕ) (f g t : ℕ → ℕ) → ((j : ℕ) → j < l → Same p (f j) (g j)) → Same p (dot l f t) (dot l g t)
 dot-alike p l f g t h =
     same-trans p (dot l f t) (dot l t f) (dot l g t) (same-from p (dot l f t) (dot l t f) (dot-turned l f t))
-      (same-trans p (dot l t f) (dot l t g) (dot l g t) (dot-same p l t f g h) (same-from p (dot l t g) (dot l g t) (dot-turned l t g)))
+    (same-trans p (dot l t f) (dot l t g) (dot l g t) (dot-same p l t f g h) (same-from p (dot l t g) (dot l g t) (dot-turned l t g)))

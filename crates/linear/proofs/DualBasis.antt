@@ -26,7 +26,7 @@ killed p l rows m s f t h a =
     let w = weight m (λ i. c i * dot l f (rows i)) s in
     let e = dot-null p l f (λ j. t j + weight m (λ i. c i * rows i j) s) (a .none) in
     let g : Null p (dot l f t + w) =
-      null-equal p (dot l f t + w) (dot l f (λ j. t j + weight m (λ i. c i * rows i j) s)) (sym (dot-mix l m f t c rows s)) e in
+    null-equal p (dot l f t + w) (dot l f (λ j. t j + weight m (λ i. c i * rows i j) s)) (sym (dot-mix l m f t c rows s)) e in
     null-cancel p (dot l f t) w g (weight-null p m (λ i. c i * dot l f (rows i)) s (λ i q r. null-multiple p (c i) (dot l f (rows i)) (h i q r)))
 
 module _ (p l : ℕ) (rows fs : ℕ → ℕ → ℕ) (m : ℕ) (s : Set) (big : 1 < p) (dual : Dual p l rows fs m s) where
@@ -58,16 +58,16 @@ module _ (p l : ℕ) (rows fs : ℕ → ℕ → ℕ) (m : ℕ) (s : Set) (big : 
       let o = weight m w (without s y) in
       let z : Null p o = weight-null p m w (without s y) (λ i q i-in. null-multiple p (c i) (dot l f (rows i)) (other-null y i k h q i-in)) in
       let x : Null p (dot l f t + w y) =
-        null-cancel p (dot l f t + w y) o (null-equal p (dot l f t + w y + o) (dot l f (λ j. t j + weight m (λ i. c i * rows i j) s)) (omega arith) e) z in
+      null-cancel p (dot l f t + w y) o (null-equal p (dot l f t + w y + o) (dot l f (λ j. t j + weight m (λ i. c i * rows i j) s)) (omega arith) e) z in
       null-same p (dot l f t + c y) (dot l f t + w y)
-        (same-sum p (dot l f t) (dot l f t) (c y) (w y) (same-refl p (dot l f t)) (same-sym p (w y) (c y) (same-one p (c y) (dot l f (rows y)) (own-one y k h))))
-        x
+      (same-sum p (dot l f t) (dot l f t) (c y) (w y) (same-refl p (dot l f t)) (same-sym p (w y) (c y) (same-one p (c y) (dot l f (rows y)) (own-one y k h))))
+      x
 
   -- no row of the set is spanned by the others
   pub dual-free : (x : ℕ) → x < m → s x ≡ true → Spans p l rows m (without s x) (rows x) → ⊥
   dual-free x k h a =
       one-not-null p (dot l (fs x) (rows x)) big (own-one x k h)
-        (killed p l rows m (without s x) (fs x) (rows x) (λ i q r. other-null x i k h q r) a)
+      (killed p l rows m (without s x) (fs x) (rows x) (λ i q r. other-null x i k h q r) a)
 
   -- without y a set spans t only if it does so with y, and the functional of y is 0 at t
   pub without-gives : (y : ℕ) (t : ℕ → ℕ) → y < m → s y ≡ true → Spans p l rows m (without s y) t → Null p (dot l (fs y) t)
@@ -78,7 +78,7 @@ module _ (p l : ℕ) (rows fs : ℕ → ℕ → ℕ) (m : ℕ) (s : Set) (big : 
   without-spans y t k h a z =
       let c = a .multiple in
       let e : Null p (c y) =
-        null-cancel p (c y) (dot l (fs y) t) (null-equal p (c y + dot l (fs y) t) (dot l (fs y) t + c y) (omega arith) (told t a y k h)) z in
+      null-cancel p (c y) (dot l (fs y) t) (null-equal p (c y + dot l (fs y) t) (dot l (fs y) t + c y) (omega arith) (told t a y k h)) z in
       record {
         multiple = c;
         none =
@@ -86,8 +86,8 @@ module _ (p l : ℕ) (rows fs : ℕ → ℕ → ℕ) (m : ℕ) (s : Set) (big : 
             let w : ℕ → ℕ = λ i. c i * rows i j in
             let r = weight-at m y w s k h in
             null-cancel p (t j + weight m w (without s y)) (rows y j * c y)
-              (null-equal p (t j + weight m w (without s y) + rows y j * c y) (t j + weight m w s) (omega arith) (a .none j q))
-              (null-multiple p (rows y j) (c y) e)
+            (null-equal p (t j + weight m w (without s y) + rows y j * c y) (t j + weight m w s) (omega arith) (a .none j q))
+            (null-multiple p (rows y j) (c y) e);
       }
 
   -- a row whose rest is zero is spanned
@@ -109,9 +109,9 @@ module _ (p l : ℕ) (rows fs : ℕ → ℕ → ℕ) (m : ℕ) (s : Set) (big : 
           let b = p - d % p in
           let c = a .multiple y in
           let e : Same p b c =
-            same-cancel p b c d d positive
-              (same-trans p (b + d) 0 (c + d) (null-is p (b + d) (null-lack p d positive))
-                (same-sym p (c + d) 0 (null-is p (c + d) (null-equal p (c + d) (d + c) (omega arith) (told t a y k h)))))
-              (same-refl p d) in
+          same-cancel p b c d d positive
+          (same-trans p (b + d) 0 (c + d) (null-is p (b + d) (null-lack p d positive))
+          (same-sym p (c + d) 0 (null-is p (c + d) (null-equal p (c + d) (d + c) (omega arith) (told t a y k h)))))
+          (same-refl p d) in
           same-trans p (b * rows y j) (rows y j * b) (c * rows y j) (same-from p (b * rows y j) (rows y j * b) (omega arith))
-            (same-trans p (rows y j * b) (rows y j * c) (c * rows y j) (same-multiple p (rows y j) b c e) (same-from p (rows y j * c) (c * rows y j) (omega arith)))
+          (same-trans p (rows y j * b) (rows y j * c) (c * rows y j) (same-multiple p (rows y j) b c e) (same-from p (rows y j * c) (c * rows y j) (omega arith)))
