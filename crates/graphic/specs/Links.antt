@@ -89,7 +89,7 @@ pub data Fault (file : List ℕ) (n p : ℕ) : Refusal → Type 0 where
   short : length file < end file n p → Fault file n p (Length Offers (length file))
   many : p + 2 ≤ length file → 600 < le2 file p → Fault file n p (Range Offers p)
   missing : (j : ℕ) → j < 2 * n → p + 2 + 2 * j + 2 ≤ length file → le2 file p ≤ le2 file (p + 2 + 2 * j) →
-    Fault file n p (Town (p + 2 + 2 * j))
+      Fault file n p (Town (p + 2 + 2 * j))
 
 -- the kept state has a label for each of up to 600 towns, a row of bits to work with, and a row of links for each town
 abbrev pub kept-length : ℕ → ℕ
@@ -107,9 +107,9 @@ pub record Ready (file : List ℕ) (n towns at : ℕ) (s : Set) (state : List �
   pub fits : kept-length n ≤ length state
   pub allowed : allows file n towns at s ≡ true
   pub labels : (u v : ℕ) → u < towns → v < towns →
-    eqb (label state u) (label state v) ≡ joined (from-town file at) (to-town file at) n s u v
+      eqb (label state u) (label state v) ≡ joined (from-town file at) (to-town file at) n s u v
   pub rows : (x z : ℕ) → x < n → z < n → s x ≡ true →
-    xor (in-row state n (from-town file at x) z) (in-row state n (to-town file at x) z) ≡ eqb z x
+      xor (in-row state n (from-town file at x) z) (in-row state n (to-town file at x) z) ≡ eqb z x
 
 -- links are a matroid
 abbrev pub Links-matroid : Type 0
