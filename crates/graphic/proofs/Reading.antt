@@ -169,12 +169,15 @@ module _ (file : List ℕ) (n p : ℕ) where
       (λ f. let l : p + 2 ≤ length file = ltb-false (length file) (p + 2) (d .0) in
       let m : le2 file p ≤ 600 = ltb-false 600 (le2 file p) (f .0) in
       ⊎-elim
-      (λ g. rw (g .0) (short (let k = g .1 in omega arith), λ q k. early m (g .2) q k))
+      (λ g. rw (g .0) (short (early-end (g .1)), λ q k. early m (g .2) q k))
       (λ g. rw (g .4) (missing (g .0) (g .1) (g .2) (g .3), λ q k. town (g .0) m (g .2) (g .5) q k))
       (towns-stop file (le2 file p) (2 * n) (p + 2) e (f .1)))
       (stopped (ltb 600 (le2 file p)) (Range Offers p) _ e (d .1)))
       (stopped (ltb (length file) (p + 2)) (Length Offers (length file)) _ e h)
     where
+      early-end : length file < p + 2 + 2 * (2 * n) → length file < end file n p
+      early-end k = omega arith
+
       header : length file < p + 2 → (f : Refusal) → Fault file n p f → Precedes (Length Offers (length file)) f
       header l _ (short k) = inr (refl, omega arith)
       header l _ (many k m) = absurd (omega arith)
