@@ -22,19 +22,19 @@ pub bit-fits : (n town at y size : ℕ) → town < 600 → y < n → kept-length
 bit-fits n town at y size h l k e = let r = row-fits (row-words n) town h in omega arith
 
 module _ (file : List ℕ) (n towns at : ℕ) (s : Set) (state : List ℕ) (w : Well file n towns at)
-  (r : Ready file n towns at s state) where
+    (r : Ready file n towns at s state) where
   -- whether a link can be added
   pub add-answer : (x u v : ℕ) → x < n → s x ≡ false → u ≡ from-town file at x → v ≡ to-town file at x →
-    not (eqb (getD state u 0) (getD state v 0)) ≡ allows file n towns at (with s x)
+      not (eqb (getD state u 0) (getD state v 0)) ≡ allows file n towns at (with s x)
   add-answer x u v l h e f =
-    rw (e, f) (can-add (from-town file at) (to-town file at) n s x _ l h (r .allowed)
-    (r .labels (from-town file at x) (to-town file at x) (w .from-real x l) (w .to-real x l)))
+      rw (e, f) (can-add (from-town file at) (to-town file at) n s x _ l h (r .allowed)
+      (r .labels (from-town file at x) (to-town file at x) (w .from-real x l) (w .to-real x l)))
 
   -- whether a link can take the place of another
   pub exchange-answer : (x y u v : ℕ) → x < n → y < n → s x ≡ false → s y ≡ true →
-    u ≡ from-town file at x → v ≡ to-town file at x →
-    (not (eqb (getD state u 0) (getD state v 0)) || xor (in-row state n u y) (in-row state n v y))
-    ≡ allows file n towns at (with (without s y) x)
+      u ≡ from-town file at x → v ≡ to-town file at x →
+      (not (eqb (getD state u 0) (getD state v 0)) || xor (in-row state n u y) (in-row state n v y))
+      ≡ allows file n towns at (with (without s y) x)
   exchange-answer x y u v l m h k e f =
-    rw (e, f) (can-exchange (from-town file at) (to-town file at) n s (in-row state n) x y _ l m h k (r .allowed) (r .rows)
-    (r .labels (from-town file at x) (to-town file at x) (w .from-real x l) (w .to-real x l)))
+      rw (e, f) (can-exchange (from-town file at) (to-town file at) n s (in-row state n) x y _ l m h k (r .allowed) (r .rows)
+      (r .labels (from-town file at x) (to-town file at x) (w .from-real x l) (w .to-real x l)))

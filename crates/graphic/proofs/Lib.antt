@@ -1,5 +1,6 @@
 pub mod Closed
 pub mod Free
+pub mod Growing
 pub mod Joined
 pub mod Kept
 pub mod Laws

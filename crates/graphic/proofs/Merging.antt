@@ -28,11 +28,12 @@ pub record Merging (n old new t : ℕ) (xs ys : List ℕ) : Type 0 where
 -- at the start all are as they were
 pub merging-none : (n old new : ℕ) (xs : List ℕ) → Merging n old new 0 xs xs
 merging-none n old new xs = record {
-    labels-done = λ u l. absurd (omega arith);
-    rows-done = λ u z l m. absurd (omega arith);
-    labels-left = λ u l m. refl;
-    rows-left = λ u z l m o. refl;
-    work = λ z l. refl }
+  labels-done = λ u l. absurd (omega arith);
+  rows-done = λ u z l m. absurd (omega arith);
+  labels-left = λ u l m. refl;
+  rows-left = λ u z l m o. refl;
+  work = λ z l. refl;
+}
 
 -- what one turn does: town t is done, and no other town is changed
 pub merging-turn : (n old new t : ℕ) (xs ys zs : List ℕ) → t < 600 → Merging n old new t xs ys →
@@ -42,11 +43,12 @@ pub merging-turn : (n old new t : ℕ) (xs ys zs : List ℕ) → t < 600 → Mer
     ((u z : ℕ) → u < 600 → (u ≡ t → ⊥) → z < n → in-row zs n u z ≡ in-row ys n u z) →
     Merging n old new (t + 1) xs zs
 merging-turn n old new t xs ys zs low m a b w ls rs = record {
-    labels-done = λ u l. ⊎-elim (λ e. rw e a) (λ ne. ls u (omega arith) ne ∙ m .labels-done u (omega arith)) (cases-eq u t);
-    rows-done = λ u z l k. ⊎-elim (λ e. rw e (b z k)) (λ ne. rs u z (omega arith) ne k ∙ m .rows-done u z (omega arith) k) (cases-eq u t);
-    labels-left = λ u l k. ls u k (λ e. omega arith) ∙ m .labels-left u (omega arith) k;
-    rows-left = λ u z l k o. rs u z k (λ e. omega arith) o ∙ m .rows-left u z (omega arith) k o;
-    work = λ z l. w z l ∙ m .work z l }
+  labels-done = λ u l. ⊎-elim (λ e. rw e a) (λ ne. ls u (omega arith) ne ∙ m .labels-done u (omega arith)) (cases-eq u t);
+  rows-done = λ u z l k. ⊎-elim (λ e. rw e (b z k)) (λ ne. rs u z (omega arith) ne k ∙ m .rows-done u z (omega arith) k) (cases-eq u t);
+  labels-left = λ u l k. ls u k (λ e. omega arith) ∙ m .labels-left u (omega arith) k;
+  rows-left = λ u z l k o. rs u z k (λ e. omega arith) o ∙ m .rows-left u z (omega arith) k o;
+  work = λ z l. w z l ∙ m .work z l;
+}
 
 -- a town with another label stays
 pub merging-skip : (n old new t : ℕ) (xs ys : List ℕ) → t < 600 → Merging n old new t xs ys → (label ys t ≡ old → ⊥) →

@@ -28,7 +28,7 @@ row-kept n at len place xs ys same apart z l =
     marks-outside at len xs ys same (32 * place + z) (⊎-elim (λ h. inl (omega arith)) (λ h. inr (omega arith)) apart)
 
 module _ (n town new : ℕ) (xs ys : List ℕ) (at : ℕ) (low : town < 600) (long : kept-length n ≤ length ys)
-  (place : at ≡ 600 + row-words n * suc town) (rest : Same-but at (row-words n) xs ys) where
+    (place : at ≡ 600 + row-words n * suc town) (rest : Same-but at (row-words n) xs ys) where
   -- after the row of one town was written, and then its label, all other rows and labels are as they were
   pub label-new : label (set ys town new) town ≡ new
   label-new = getD-set-same ys town new 0 (omega arith)
@@ -38,19 +38,19 @@ module _ (n town new : ℕ) (xs ys : List ℕ) (at : ℕ) (low : town < 600) (lo
 
   pub work-kept : (z : ℕ) → z < n → word-row (set ys town new) 600 z ≡ word-row xs 600 z
   work-kept z l =
-    row-kept n town 1 600 ys (set ys town new) (set-same-but ys town new) (inr (omega arith)) z l
-    ∙ row-kept n at (row-words n) 600 xs ys rest (inl (omega (arith, mul-le (row-words n) 1 (row-words n) (suc town) (omega arith) (omega arith)))) z l
+      row-kept n town 1 600 ys (set ys town new) (set-same-but ys town new) (inr (omega arith)) z l
+      ∙ row-kept n at (row-words n) 600 xs ys rest (inl (omega (arith, mul-le (row-words n) 1 (row-words n) (suc town) (omega arith) (omega arith)))) z l
 
   pub town-row-new : (z : ℕ) → z < n → in-row (set ys town new) n town z ≡ word-row ys at z
   town-row-new z l =
-    row-kept n town 1 (600 + row-words n * suc town) ys (set ys town new) (set-same-but ys town new) (inr (omega arith)) z l
-    ∙ ap (λ p. word-row ys p z) (sym place)
+      row-kept n town 1 (600 + row-words n * suc town) ys (set ys town new) (set-same-but ys town new) (inr (omega arith)) z l
+      ∙ ap (λ p. word-row ys p z) (sym place)
 
   pub other-row-kept : (t z : ℕ) → t < 600 → (t ≡ town → ⊥) → z < n → in-row (set ys town new) n t z ≡ in-row xs n t z
   other-row-kept t z m h l =
-    row-kept n town 1 (600 + row-words n * suc t) ys (set ys town new) (set-same-but ys town new) (inr (omega arith)) z l
-    ∙ row-kept n at (row-words n) (600 + row-words n * suc t) xs ys rest
-    (⊎-elim (λ q. inl (omega arith)) (λ q. inr (omega arith)) (rows-apart (row-words n) t town h)) z l
+      row-kept n town 1 (600 + row-words n * suc t) ys (set ys town new) (set-same-but ys town new) (inr (omega arith)) z l
+      ∙ row-kept n at (row-words n) (600 + row-words n * suc t) xs ys rest
+      (⊎-elim (λ q. inl (omega arith)) (λ q. inr (omega arith)) (rows-apart (row-words n) t town h)) z l
 
 -- a write within a stretch leaves all outside of the stretch
 pub wider : (at len p : ℕ) (xs ys : List ℕ) → at ≤ p → p + 1 ≤ at + len → Same-but p 1 xs ys → Same-but at len xs ys
@@ -89,12 +89,16 @@ summed n x u v xs a b d e l clear ra put rb one rd two re =
   where
     first : Same-but 600 (row-words n) xs b
     first = twice 600 (row-words n) xs a b ra (wider 600 (row-words n) (600 + x / 32) a b (omega arith) (omega arith) rb)
+
     below : Same-but 600 (row-words n) xs d
     below = twice 600 (row-words n) xs b d first rd
+
     bits : (z i : ℕ) → (p q : Bool) → p ≡ (q || eqb (32 * 600 + z) (32 * 600 + i)) → q ≡ false → p ≡ eqb z i
     bits z i p q h k = grind arith
+
     sums : (w1 w2 w3 ru rv su sv it : Bool) → w1 ≡ it → w2 ≡ xor w1 ru → w3 ≡ xor w2 rv → ru ≡ su → rv ≡ sv → w3 ≡ xor (xor it su) sv
     sums w1 w2 w3 ru rv su sv it h i j k m = grind arith
+
     joined : (z : ℕ) → z < n → word-row e 600 z ≡ xor (xor (eqb z x) (in-row xs n u z)) (in-row xs n v z)
     joined z m =
         sums (word-row b 600 z) (word-row d 600 z) (word-row e 600 z) (in-row b n u z) (in-row d n v z) (in-row xs n u z) (in-row xs n v z)

@@ -16,10 +16,11 @@ use Rattle.sets.specs.Closure.{free}
 use Rattle.sets.specs.Matroid.{Set, Matroid}
 use Rattle.sets.specs.Refusals.{First}
 
--- the two towns of link i, each a number of two bytes
+-- the first town of link i, a number of two bytes
 abbrev pub from-town : List ℕ → ℕ → ℕ → ℕ
 from-town file at i = le2 file (at + 4 * i)
 
+-- the second town of link i, in the two bytes after that
 abbrev pub to-town : List ℕ → ℕ → ℕ → ℕ
 to-town file at i = le2 file (at + 4 * i + 2)
 
@@ -89,15 +90,17 @@ pub data Fault (file : List ℕ) (n p : ℕ) : Refusal → Type 0 where
   short : length file < end file n p → Fault file n p (Length Offers (length file))
   many : p + 2 ≤ length file → 600 < le2 file p → Fault file n p (Range Offers p)
   missing : (j : ℕ) → j < 2 * n → p + 2 + 2 * j + 2 ≤ length file → le2 file p ≤ le2 file (p + 2 + 2 * j) →
-    Fault file n p (Town (p + 2 + 2 * j))
+      Fault file n p (Town (p + 2 + 2 * j))
 
 -- the kept state has a label for each of up to 600 towns, a row of bits to work with, and a row of links for each town
 abbrev pub kept-length : ℕ → ℕ
 kept-length n = 600 + row-words n * 601
 
+-- the label of a town
 abbrev pub label : List ℕ → ℕ → ℕ
 label state town = getD state town 0
 
+-- the links in the row of a town
 abbrev pub in-row : List ℕ → ℕ → ℕ → Set
 in-row state n town = word-row state (600 + row-words n * suc town)
 
@@ -107,9 +110,26 @@ pub record Ready (file : List ℕ) (n towns at : ℕ) (s : Set) (state : List �
   pub fits : kept-length n ≤ length state
   pub allowed : allows file n towns at s ≡ true
   pub labels : (u v : ℕ) → u < towns → v < towns →
-    eqb (label state u) (label state v) ≡ joined (from-town file at) (to-town file at) n s u v
+      eqb (label state u) (label state v) ≡ joined (from-town file at) (to-town file at) n s u v
   pub rows : (x z : ℕ) → x < n → z < n → s x ≡ true →
-    xor (in-row state n (from-town file at x) z) (in-row state n (to-town file at x) z) ≡ eqb z x
+      xor (in-row state n (from-town file at x) z) (in-row state n (to-town file at x) z) ≡ eqb z x
+
+-- an equivalence of towns
+pub record Equivalence (same : ℕ → ℕ → Bool) : Type 0 where
+  pub self : (u : ℕ) → same u u ≡ true
+  pub back : (u v : ℕ) → same u v ≡ true → same v u ≡ true
+  pub on : (u v w : ℕ) → same u v ≡ true → same v w ≡ true → same u w ≡ true
+
+-- the two towns of each link of a set are the same
+abbrev pub Links-same : (from to : ℕ → ℕ) → ℕ → Set → (ℕ → ℕ → Bool) → Type 0
+Links-same from to n s same = (x : ℕ) → x < n → s x ≡ true → same (from x) (to x) ≡ true
+
+-- to be joined by links of a set is the least equivalence in which the two towns of each link of the set are the same
+abbrev pub Joined-least : Type 0
+Joined-least =
+    (from to : ℕ → ℕ) (n : ℕ) (s : Set) → Equivalence (joined from to n s) × Links-same from to n s (joined from to n s)
+    × ((same : ℕ → ℕ → Bool) → Equivalence same → Links-same from to n s same →
+    (u v : ℕ) → joined from to n s u v ≡ true → same u v ≡ true)
 
 -- links are a matroid
 abbrev pub Links-matroid : Type 0

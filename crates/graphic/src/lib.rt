@@ -5,9 +5,8 @@ ghost use Prim.Native.Nat.{ℕ, suc, _+_, _*_, _<_, _≤_};
 ghost use lib.Dec.{eqb};
 ghost use lib.ListN.{length, getD};
 ghost use Rattle.sets.specs.Bits.{marked, row-words, word-row, xor};
-ghost use Rattle.sets.specs.Matroid.{pick, with, without};
+ghost use Rattle.sets.specs.Matroid.{Set, pick, with, without};
 ghost use Rattle.graphic.specs.Links.{from-town, to-town, allows, Well, read, read-towns, kept-length, label, in-row, Ready};
-
 use sets::numbers::read_u16;
 use sets::refusal::Refusal;
 use sets::refusal::Source;
@@ -80,30 +79,6 @@ fn rows_differ(state: &[u32], n: usize, u: usize, v: usize, y: usize) -> bool
     words::contains(state, row_at(n, u), y) != words::contains(state, row_at(n, v), y)
 }
 
-// May the link x be added to the set?
-pub fn can_add(file: &[u8], n: usize, towns: usize, at: usize, set: &[u32], state: &[u32], x: usize) -> bool
-    requires well { ⌜ Well (now file) n towns at ⌝ }
-    requires ready { ⌜ Ready (now file) n towns at (marked (now set)) (now state) ⌝ }
-    requires new { ⌜ x < n ⌝ ∗ ⌜ marked (now set) x ≡ false ⌝ }
-    ensures { λ r. ⌜ r ≡ allows (now (file .entry)) n towns at (with (marked (now (set .entry))) x) ⌝ }
-{
-    state[from_town(file, at, x)] != state[to_town(file, at, x)]
-}
-
-// May the link x take the place of the link y of the set?
-pub fn can_exchange(file: &[u8], n: usize, towns: usize, at: usize, set: &[u32], state: &[u32], x: usize, y: usize) -> bool
-    requires well { ⌜ Well (now file) n towns at ⌝ }
-    requires ready { ⌜ Ready (now file) n towns at (marked (now set)) (now state) ⌝ }
-    requires few { ⌜ n ≤ 600 ⌝ }
-    requires new { ⌜ x < n ⌝ ∗ ⌜ marked (now set) x ≡ false ⌝ }
-    requires old { ⌜ y < n ⌝ ∗ ⌜ marked (now set) y ≡ true ⌝ }
-    ensures { λ r. ⌜ r ≡ allows (now (file .entry)) n towns at (with (without (marked (now (set .entry))) y) x) ⌝ }
-{
-    let u = from_town(file, at, x);
-    let v = to_town(file, at, x);
-    state[u] != state[v] || rows_differ(state, n, u, v, y)
-}
-
 // A town that takes another label adds the working row to its own.
 fn merge_town(state: &mut [u32], n: usize, town: usize, new: u32)
     requires { ⌜ kept-length n ≤ length (now state) ⌝ ∗ ⌜ n ≤ 600 ⌝ ∗ ⌜ town < 600 ⌝ }
@@ -142,4 +117,97 @@ fn sum_rows(state: &mut [u32], n: usize, u: usize, v: usize, x: usize)
     words::insert(state, 600, x);
     words::xor_row(state, row_at(n, u), 600, len);
     words::xor_row(state, row_at(n, v), 600, len);
+}
+
+// Adds the link x to a set and its kept state, unless its two towns are joined already.
+fn add_link(file: &[u8], n: usize, towns: usize, at: usize, state: &mut [u32], x: usize) -> bool
+    requires well { ⌜ Well (now file) n towns at ⌝ }
+    requires fits { ⌜ kept-length n ≤ length (now state) ⌝ ∗ ⌜ n ≤ 600 ⌝ ∗ ⌜ x < n ⌝ }
+    ensures answers { λ r. ⌜ ((s : Set) → Ready (now (file .entry)) n towns at s (now (state .entry)) → s x ≡ false → r ≡ allows (now (file .entry)) n towns at (with s x)) ⌝ }
+    ensures grows { λ r. ⌜ ((s : Set) → Ready (now (file .entry)) n towns at s (now (state .entry)) → s x ≡ false → r ≡ true → Ready (now (file .entry)) n towns at (with s x) (now (state .exit))) ⌝ }
+{
+    let u = from_town(file, at, x);
+    let v = to_town(file, at, x);
+    let new = state[u];
+    let old = state[v];
+    if new == old {
+        return false;
+    }
+    sum_rows(state, n, u, v, x);
+    merge_classes(state, n, towns, old, new);
+    true
+}
+
+// Gives each town a label of its own: the kept state of the empty set.
+fn start(state: &mut [u32], towns: usize)
+    requires { ⌜ towns ≤ 600 ⌝ ∗ ⌜ towns ≤ length (now state) ⌝ }
+    ensures { λ _. ⌜ ((t : ℕ) → t < towns → label (now (state .exit)) t ≡ t) ⌝ }
+{
+    for t in 0..towns {
+        state[t] = t as u32;
+    }
+}
+
+// Is the set allowed? If so, the lent memory then holds the kept state of the set; else it holds anything.
+pub fn independent(
+    file: &[u8],
+    n: usize,
+    towns: usize,
+    at: usize,
+    set: &[u32],
+    state: &mut [u32],
+) -> bool
+    requires well { ⌜ Well (now file) n towns at ⌝ }
+    requires fits { ⌜ n ≤ 600 ⌝ ∗ ⌜ row-words n ≤ length (now set) ⌝ ∗ ⌜ kept-length n ≤ length (now state) ⌝ }
+    ensures answers { λ r. ⌜ r ≡ allows (now (file .entry)) n towns at (marked (now (set .entry))) ⌝ }
+    ensures ready { λ r. ⌜ (r ≡ true → Ready (now (file .entry)) n towns at (marked (now (set .entry))) (now (state .exit))) ⌝ }
+{
+    start(state, towns);
+    for i in 0..n {
+        if words::contains(set, 0, i) && !add_link(file, n, towns, at, state, i) {
+            return false;
+        }
+    }
+    true
+}
+
+// May the link x be added to the set?
+pub fn can_add(
+    file: &[u8],
+    n: usize,
+    towns: usize,
+    at: usize,
+    set: &[u32],
+    state: &[u32],
+    x: usize,
+) -> bool
+    requires well { ⌜ Well (now file) n towns at ⌝ }
+    requires ready { ⌜ Ready (now file) n towns at (marked (now set)) (now state) ⌝ }
+    requires new { ⌜ x < n ⌝ ∗ ⌜ marked (now set) x ≡ false ⌝ }
+    ensures { λ r. ⌜ r ≡ allows (now (file .entry)) n towns at (with (marked (now (set .entry))) x) ⌝ }
+{
+    state[from_town(file, at, x)] != state[to_town(file, at, x)]
+}
+
+// May the link x take the place of the link y of the set?
+pub fn can_exchange(
+    file: &[u8],
+    n: usize,
+    towns: usize,
+    at: usize,
+    set: &[u32],
+    state: &[u32],
+    x: usize,
+    y: usize,
+) -> bool
+    requires well { ⌜ Well (now file) n towns at ⌝ }
+    requires ready { ⌜ Ready (now file) n towns at (marked (now set)) (now state) ⌝ }
+    requires few { ⌜ n ≤ 600 ⌝ }
+    requires new { ⌜ x < n ⌝ ∗ ⌜ marked (now set) x ≡ false ⌝ }
+    requires old { ⌜ y < n ⌝ ∗ ⌜ marked (now set) y ≡ true ⌝ }
+    ensures { λ r. ⌜ r ≡ allows (now (file .entry)) n towns at (with (without (marked (now (set .entry))) y) x) ⌝ }
+{
+    let u = from_town(file, at, x);
+    let v = to_town(file, at, x);
+    state[u] != state[v] || rows_differ(state, n, u, v, y)
 }

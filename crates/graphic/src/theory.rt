@@ -1,5 +1,12 @@
 // What is proved of every rule of links.
-ghost use Rattle.graphic.specs.Links.{Links-matroid, No-ring, Reads-well, Refuses-first};
+ghost use Rattle.graphic.specs.Links.{Joined-least, Links-matroid, No-ring, Reads-well, Refuses-first};
+
+// To be joined is the least equivalence that the links of a set make.
+pub fn joined_is_least() -> u8
+    ensures { λ _. ⌜ Joined-least ⌝ }
+{
+    0
+}
 
 // Links are a matroid.
 pub fn links_are_a_matroid() -> u8

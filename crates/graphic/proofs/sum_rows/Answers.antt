@@ -35,9 +35,9 @@ returns c =
     let d = c .xor-row .last .words in
     let e = c .xor-row-2 .last .words in
     let s = summed n (c .args .x) (c .args .u) (c .args .v) xs (c .clear-row .last .words) b d e (omega arith)
-      (c .clear-row .ensures .marks) (c .clear-row .ensures .rest) (c .insert .ensures .marks) (c .insert .ensures .rest)
-      (λ j l. c .xor-row .ensures .marks j l ∙ ap (λ p. xor (word-row b 600 j) (word-row b p j)) (c .row-at .ensures))
-      (c .xor-row .ensures .rest)
-      (λ j l. c .xor-row-2 .ensures .marks j l ∙ ap (λ p. xor (word-row d 600 j) (word-row d p j)) (c .row-at-2 .ensures))
-      (c .xor-row-2 .ensures .rest) in
+    (c .clear-row .ensures .marks) (c .clear-row .ensures .rest) (c .insert .ensures .marks) (c .insert .ensures .rest)
+    (λ j l. c .xor-row .ensures .marks j l ∙ ap (λ p. xor (word-row b 600 j) (word-row b p j)) (c .row-at .ensures))
+    (c .xor-row .ensures .rest)
+    (λ j l. c .xor-row-2 .ensures .marks j l ∙ ap (λ p. xor (word-row d 600 j) (word-row d p j)) (c .row-at-2 .ensures))
+    (c .xor-row-2 .ensures .rest) in
     record { sum = s .0; labels = labels-beside n xs e (s .1); rows = λ t z l m. rows-beside n xs e (s .1) t z m }
