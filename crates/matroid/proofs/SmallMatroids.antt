@@ -22,14 +22,14 @@ use Rattle.matroid.proofs.TightExchanges.{tight-exchanges-and-one}
 use Rattle.matroid.proofs.Gains.{gains-never-rise}
 
 -- what holds at 0, 1 and 2 holds below 3
-below-three : (P : ℕ → Type 0) → P 0 → P 1 → P 2 → (x : ℕ) → x < 3 → P x
+pub below-three : (P : ℕ → Type 0) → P 0 → P 1 → P 2 → (x : ℕ) → x < 3 → P x
 below-three P a b c zero h = a
 below-three P a b c (suc zero) h = b
 below-three P a b c (suc (suc zero)) h = c
 below-three P a b c (suc (suc (suc x))) h = absurd (omega arith)
 
 -- the two tests have the laws of a matroid
-left-matroid : Matroid 3 left
+pub left-matroid : Matroid 3 left
 left-matroid =
     matroid 3 left refl
     (λ s t h e. let a : s 0 ≡ true → t 0 ≡ true = h 0 (omega arith) in let b : s 1 ≡ true → t 1 ≡ true = h 1 (omega arith) in grind arith)
@@ -117,7 +117,7 @@ pub small-signed : Small-signed
 small-signed = (small-signed-split, λ t e d h. heaviest-signed 3 left right price plus minus outer t left-matroid right-matroid small-signed-split e d h)
 
 -- the tight exchange, and what it makes
-small-tight : Tight 3 left level middle (λ i. 1) (λ i. 0) 1 (λ i. i)
+pub small-tight : Tight 3 left level middle (λ i. 1) (λ i. 0) 1 (λ i. i)
 small-tight =
     record {
       pairs = record { allowed = refl; full = λ i p. refl; single = λ i p. refl };
