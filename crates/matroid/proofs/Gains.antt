@@ -1,16 +1,13 @@
 -- The weights gained from size to size never rise.
-use mathlib.Core.Path.{_≡_, refl, sym, _∙_, ap}
+use mathlib.Core.Path.{_≡_, ap}
 use mathlib.Core.Logic.{⊎-elim}
-use mathlib.Core.Bool.{Bool, true, false, _&&_}
 use Prim.Native.Nat.{ℕ, suc, _+_, _-_, _*_, _≤_, _<_}
 use native.Mathlib.Omega.{arith}
-use lib.Dec.{ltb}
 use borrow.Author.Differences.{up, down}
 use Rattle.std.proofs.shelf.Tests.{cases-lt}
-use Rattle.sets.specs.Matroid.{Set, size, weight, Matroid}
+use Rattle.sets.specs.Matroid.{size, weight}
 use Rattle.sets.proofs.FiniteSets.{size-within}
 use Rattle.sets.proofs.Weights.{above, layer-cake-two}
-use Rattle.matroid.specs.Optimal.{Best, Split}
 use Rattle.matroid.specs.Gains.{Gains-by-one, Gains-never-rise, Gains-never-rise-signed}
 use Rattle.matroid.proofs.OneMatroid.{above-no-fewer}
 use Rattle.matroid.proofs.Optimality.{split-sum, signed-is-split}

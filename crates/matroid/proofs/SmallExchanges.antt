@@ -1,16 +1,16 @@
 -- The theorems on exchanges at small matroids on three and four elements.
-use mathlib.Core.Path.{_≡_, refl, sym, _∙_, subst}
-use mathlib.Core.Logic.{_⊎_, inl, inr, ⊎-elim}
-use mathlib.Core.Bool.{Bool, true, false, _&&_, _||_, not}
-use Prim.Native.Nat.{ℕ, zero, suc, _+_, _≤_, _<_}
+use mathlib.Core.Path.{_≡_, refl}
+use mathlib.Core.Logic.{⊎-elim}
+use mathlib.Core.Bool.{Bool, true, false, _&&_, not}
+use Prim.Native.Nat.{ℕ, zero, suc, _≤_, _<_}
 use native.Mathlib.Omega.{arith}
 use lib.Dec.{eqb, ltb, leb}
 use Rattle.std.proofs.shelf.Tests.{and-parts, lt-ltb}
-use Rattle.sets.specs.Matroid.{pick, Set, size, weight, without, with, Within, Matroid}
+use Rattle.sets.specs.Matroid.{Set, size, without, with, Matroid}
 use Rattle.sets.proofs.FiniteSets.{look-up, size-within}
 use Rattle.sets.proofs.MatroidLaws.{matroid}
 use Rattle.matroid.specs.Optimal.{Best}
-use Rattle.matroid.specs.Exchanges.{exchanged, Pairs}
+use Rattle.matroid.specs.Exchanges.{Pairs}
 use Rattle.matroid.specs.Examples.{left, middle, outer, lower, upper, level, Small-steps, twins, goes, comes, Small-pairs}
 use Rattle.matroid.proofs.OneMatroid.{extension, exchange, heaviest-by-one, as-good-as-best, best-of-one-more, carry}
 use Rattle.matroid.proofs.TightExchanges.{many-exchanges}

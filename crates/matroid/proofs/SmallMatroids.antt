@@ -1,21 +1,20 @@
 -- The theorems at two small matroids on three elements.
-use mathlib.Core.Path.{_≡_, refl, sym, _∙_, subst}
-use mathlib.Core.Logic.{_⊎_, inl, inr, ⊎-elim}
-use mathlib.Core.Bool.{Bool, true, false, _&&_, _||_, not}
-use Prim.Native.Nat.{ℕ, zero, suc, _+_, _≤_, _<_}
+use mathlib.Core.Path.{_≡_, refl, sym, subst}
+use mathlib.Core.Logic.{⊎-elim}
+use mathlib.Core.Bool.{true, false, _&&_, not}
+use Prim.Native.Nat.{ℕ, zero, suc, _≤_, _<_}
 use native.Mathlib.Omega.{arith}
-use lib.Dec.{eqb, ltb}
-use lib.IntN.{ℤ, pos, _+ℤ_}
+use lib.Dec.{eqb}
+use lib.IntN.{pos, _+ℤ_}
 use lib.Signed.{_≤ℤ_}
 use Rattle.std.proofs.shelf.Signed.{ints}
-use Rattle.std.proofs.shelf.Tests.{both-ways}
-use Rattle.sets.specs.Matroid.{pick, Set, size, weight, without, with, none, Within, Matroid}
-use Rattle.sets.specs.Closure.{Closure, free}
+use Rattle.sets.specs.Matroid.{Set, size, without, with, none, Matroid}
+use Rattle.sets.specs.Closure.{Closure}
 use Rattle.sets.proofs.FiniteSets.{look-up}
 use Rattle.sets.proofs.MatroidLaws.{matroid}
 use Rattle.sets.proofs.ClosureTheorem.{closure-matroid}
 use Rattle.matroid.specs.Optimal.{Dual, Split, Signed-split}
-use Rattle.matroid.specs.Exchanges.{exchanged, Tight, Made}
+use Rattle.matroid.specs.Exchanges.{Tight}
 use Rattle.matroid.specs.Examples.{left, right, price, middle, outer, lower, Small-matroids, Small-largest, Small-heaviest, plus, minus, Small-signed, level, Small-exchange, Small-gains, any, Small-closure}
 use Rattle.matroid.proofs.Optimality.{largest, heaviest, heaviest-signed, exchanges-suffice}
 use Rattle.matroid.proofs.TightExchanges.{tight-exchanges-and-one}
