@@ -2,3 +2,4 @@ pub mod Augment
 pub mod Growth
 pub mod Laws
 pub mod Matchings
+pub mod RowFacts

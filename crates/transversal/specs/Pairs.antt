@@ -14,8 +14,8 @@ abbrev pub at : List ℕ → ℕ → ℕ
 at xs i = getD xs i 0
 
 -- volunteer v can look after offer x, by the volunteers' rows behind the rows of the offers
-abbrev pub can-by : List ℕ → ℕ → ℕ → ℕ → Bool
-can-by rows n v x = in-row rows n (n + 1 + v) x
+abbrev pub can-by : List ℕ → ℕ → ℕ → ℕ → ℕ → Bool
+can-by rows n width v x = in-row rows width (n + 1 + v) x
 
 -- the offers that have a volunteer
 abbrev pub matched : ℕ → (ℕ → ℕ) → Set
