@@ -7,7 +7,7 @@ use Prim.Native.Nat.{ℕ, zero, suc, _+_, _*_, _≤_, _<_}
 use native.Mathlib.Omega.{arith}
 use lib.Dec.{eqb, ltb, leb}
 use lib.ListN.{length, getD, set}
-use Rattle.std.proofs.shelf.Lists.{getD-set-same, getD-set-other}
+use Rattle.std.proofs.shelf.Lists.{getD-set-same, getD-set-other, length-set}
 use Rattle.std.proofs.shelf.Tests.{cases-bool, cases-lt, cases-eq}
 use Rattle.sets.specs.Matroid.{pick, Set, size, without, with, none, Within}
 use Rattle.sets.proofs.FiniteSets.{size-with}
@@ -171,3 +171,37 @@ module _ (can : ℕ → ℕ → Bool) (n volunteers : ℕ) where
 
       all : (u : ℕ) → u ≡ y → matched volunteers (put f y v) u ≡ with s x u
       all u e = let m : with s x y ≡ true = r .mine in let l : v < volunteers = low in grind arith
+
+-- a free volunteer is written behind the others
+pub queued-write : (n m : ℕ) (o : ℕ → ℕ) (xs ys : List ℕ) (len new : ℕ) → Queued n m o (at xs) len → len < length xs → n ≤ o m →
+    ys ≡ set xs len m → new ≡ len + 1 → Queued n (m + 1) o (at ys) new
+queued-write n m o xs ys len new q h free e d = rw (e, d, at-set xs len m h) (queued-in n m o (at xs) len q free)
+
+module _ (can : ℕ → ℕ → Bool) (n volunteers : ℕ) (s : Set) (x : ℕ) (queue via : ℕ → ℕ) (tends owner : List ℕ) (y : ℕ)
+    (r : Shifting can n volunteers s x queue via (at tends) (at owner) y) (long : n ≤ length tends) (wide : volunteers ≤ length owner) where
+  -- the volunteer for y is there
+  pub shift-low : queue (via y) < volunteers
+  shift-low = r .led .low (via y) (r .led .by y (r .inside) (r .come) .0)
+
+  -- the next offer has its volunteer by an earlier place, and what holds on the way holds for it
+  pub shift-write : volunteers ≤ 600 → at owner (queue (via y)) < n →
+      Shifting can n volunteers s x queue via (at (set (set tends y (queue (via y))) (at owner (queue (via y))) 600)) (at (set owner (queue (via y)) y)) (at owner (queue (via y)))
+      × (via (at owner (queue (via y))) < via y)
+  shift-write few h =
+      let a : y < length tends = omega (arith, r .inside) in
+      let b : at owner (queue (via y)) < length (set tends y (queue (via y))) = simp length-set (omega arith) in
+      let d : queue (via y) < length owner = omega (arith, shift-low) in
+      rw (at-set (set tends y (queue (via y))) (at owner (queue (via y))) 600 b, at-set tends y (queue (via y)) a, at-set owner (queue (via y)) y d)
+      (shift-on can n volunteers s x queue via (at tends) (at owner) y (queue (via y)) (at owner (queue (via y))) few r refl refl h)
+
+  -- the last one takes a free volunteer
+  pub shift-done : n ≤ at owner (queue (via y)) →
+      Paired can n volunteers (at (set tends y (queue (via y)))) (at (set owner (queue (via y)) y))
+      × ((u : ℕ) → u < n → matched volunteers (at (set tends y (queue (via y)))) u ≡ with s x u)
+  shift-done h =
+      let a : y < length tends = omega (arith, r .inside) in
+      let d : queue (via y) < length owner = omega (arith, shift-low) in
+      let e = shift-end can n volunteers s x queue via (at tends) (at owner) y (queue (via y)) r refl h in (
+        rw (at-set tends y (queue (via y)) a, at-set owner (queue (via y)) y d) (e .0),
+        λ u k. ap (λ (f : ℕ → ℕ). matched volunteers f u) (at-set tends y (queue (via y)) a) ∙ e .1 u k,
+      )

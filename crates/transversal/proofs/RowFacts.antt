@@ -10,7 +10,7 @@ use lib.ListN.{length, getD}
 use lib.Bits.{bitOr}
 use Rattle.std.proofs.shelf.Bits.{mul-le}
 use Rattle.std.proofs.shelf.Tests.{cases-lt, cases-order}
-use Rattle.sets.specs.Bits.{word-row, Same-but}
+use Rattle.sets.specs.Bits.{marked, word-row, Same-but}
 use Rattle.sets.proofs.Stretches.{word-row-is}
 use Rattle.sets.proofs.Masks.{bit, bit-or}
 
@@ -25,3 +25,7 @@ word-covers xs ys from k y e low high p =
     let c : bit (getD ys k 0) (y % 32) ≡ true = ap (λ w. bit w (y % 32)) (sym e) ∙ (d ∙ ap (λ u. u || bit (getD ys k 0) (y % 32)) b) in
     let z : k ≡ 0 + y / 32 = omega arith in
     word-row-is ys 0 y ∙ (ap (λ i. bit (getD ys i 0) (y % 32)) (sym z) ∙ c)
+
+-- the row from word 0 on is the set of the words
+pub row-zero : (xs : List ℕ) (x : ℕ) → word-row xs 0 x ≡ marked xs x
+row-zero xs x = let e : 32 * 0 + x ≡ x = omega arith in ap (λ i. marked xs i) e
