@@ -1,4 +1,9 @@
 pub mod Augment
+pub mod Closed
+pub mod Going
 pub mod Growth
 pub mod Laws
 pub mod Matchings
+pub mod Pairing
+pub mod RowFacts
+pub mod Turns

@@ -1,4 +1,6 @@
 // Rules of volunteers: each offer of an allowed set has a volunteer of its own who can look after it.
+mod matching;
+
 ghost use Rattle.transversal.specs.Volunteers.{Reading-agrees, Volunteers-matroid};
 
 // A set passes the test just where each of its offers has a volunteer of its own.
