@@ -1,5 +1,6 @@
 // Rules of volunteers: each offer of an allowed set has a volunteer of its own who can look after it.
 mod matching;
+mod rows;
 
 ghost use Rattle.transversal.specs.Volunteers.{Reading-agrees, Volunteers-matroid};
 
