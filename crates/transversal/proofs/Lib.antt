@@ -3,6 +3,7 @@ pub mod Closed
 pub mod Closing
 pub mod Going
 pub mod Growth
+pub mod Kept
 pub mod Laws
 pub mod Matchings
 pub mod Pairing
