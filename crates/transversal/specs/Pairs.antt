@@ -66,3 +66,7 @@ start can volunteers f y x = matched volunteers f y && can (f y) x
 
 abbrev pub start-free : (ℕ → ℕ → Bool) → ℕ → ℕ → (ℕ → ℕ) → ℕ → Bool
 start-free can n volunteers o x = some volunteers (λ v. leb n (o v) && can v x)
+
+-- row k with what is come to through offer j
+abbrev pub through : (ℕ → ℕ → Bool) → ℕ → ℕ → ℕ → Bool
+through t j k x = t k x || (t k j && t j x)
