@@ -11,7 +11,6 @@ use Rattle.linear.proofs.Laws as linear
 
 -- a well-formed rule of any kind is a matroid
 pub rule-matroid : Rules-matroid
-unfolding allows Well
 rule-matroid file n (Limits groups at) w = laminar.rule-matroid file n groups at w
 rule-matroid file n (Volunteers volunteers at) w = transversal.rule-matroid file n volunteers at w
 rule-matroid file n (Links towns at) w = graphic.rule-matroid file n towns at w
@@ -19,7 +18,6 @@ rule-matroid file n (Rows prime long at) w = linear.rows-matroid file n prime lo
 
 -- the test of any kind says what the kind allows in its own words
 pub natural : Rules-natural
-unfolding allows Allowed Well
 natural file n (Limits groups at) s w = laminar.natural file n groups at s
 natural file n (Volunteers volunteers at) s w = transversal.natural file n volunteers at s
 natural file n (Links towns at) s w = graphic.natural file n towns at s

@@ -15,28 +15,28 @@ use Rattle.linear.specs.Rows as linear
 use Rattle.linear.specs.Kept as linear-kept
 
 -- the rule is well-formed in the file
-unfoldable pub Well : List ℕ → ℕ → Rule → Type 0
+abbrev pub Well : List ℕ → ℕ → Rule → Type 0
 Well file n (Limits groups at) = laminar.Well file n groups at
 Well file n (Volunteers volunteers at) = transversal.Well file n volunteers at
 Well file n (Links towns at) = graphic.Well file n towns at
 Well file n (Rows prime long at) = linear.Well file n prime long at
 
 -- the rule allows the set, in the words of its kind
-unfoldable pub Allowed : List ℕ → ℕ → Rule → Set → Type 0
+abbrev pub Allowed : List ℕ → ℕ → Rule → Set → Type 0
 Allowed file n (Limits groups at) s = laminar.Allowed file n groups at s
 Allowed file n (Volunteers volunteers at) s = transversal.Allowed file n volunteers at s
 Allowed file n (Links towns at) s = graphic.Allowed file n towns at s
 Allowed file n (Rows prime long at) s = linear.Allowed file n prime long at s
 
 -- the same as a test
-unfoldable pub allows : List ℕ → ℕ → Rule → Set → Bool
+abbrev pub allows : List ℕ → ℕ → Rule → Set → Bool
 allows file n (Limits groups at) s = laminar.allows file n groups at s
 allows file n (Volunteers volunteers at) s = transversal.allows file n volunteers at s
 allows file n (Links towns at) s = graphic.allows file n towns at s
 allows file n (Rows prime long at) s = linear.allows file n prime long at s
 
 -- how many words are kept for a set of n offers: enough for each kind
-unfoldable pub kept-length : ℕ → ℕ
+abbrev pub kept-length : ℕ → ℕ
 kept-length n = 600 + 65 * n + (n + 601) * row-words n
 
 -- what is kept is right for the set, by the rule's kind
@@ -47,7 +47,7 @@ Kept file n (Links towns at) s state = graphic.Ready file n towns at s state
 Kept file n (Rows prime long at) s state = linear-kept.Ready file n prime long at s state
 
 -- and there is room for it
-unfoldable pub Ready : List ℕ → ℕ → Rule → Set → List ℕ → Type 0
+abbrev pub Ready : List ℕ → ℕ → Rule → Set → List ℕ → Type 0
 Ready file n rule s state = (kept-length n ≤ length state) × Kept file n rule s state
 
 -- every well-formed rule is a matroid

@@ -24,9 +24,24 @@ pub fn independent(file: &[u8], n: usize, rule: Rule, set: &[u32], state: &mut [
 {
     match rule {
         Rule::Limits { groups, at } => laminar::independent(file, n, groups, at, set, state),
-        Rule::Volunteers { .. } => false,
+        Rule::Volunteers { volunteers, at } => transversal::independent(
+            file,
+            n,
+            volunteers,
+            at,
+            set,
+            state,
+        ),
         Rule::Links { towns, at } => graphic::independent(file, n, towns, at, set, state),
-        Rule::Rows { prime, length, at } => linear::independent(file, n, prime as u64, length, at, set, state),
+        Rule::Rows { prime, length, at } => linear::independent(
+            file,
+            n,
+            prime as u64,
+            length,
+            at,
+            set,
+            state,
+        ),
     }
 }
 
@@ -39,14 +54,39 @@ pub fn can_add(file: &[u8], n: usize, rule: Rule, set: &[u32], state: &[u32], x:
 {
     match rule {
         Rule::Limits { groups, at } => laminar::can_add(file, n, groups, at, set, state, x),
-        Rule::Volunteers { .. } => false,
+        Rule::Volunteers { volunteers, at } => transversal::can_add(
+            file,
+            n,
+            volunteers,
+            at,
+            set,
+            state,
+            x,
+        ),
         Rule::Links { towns, at } => graphic::can_add(file, n, towns, at, set, state, x),
-        Rule::Rows { prime, length, at } => linear::can_add(file, n, prime as u64, length, at, set, state, x),
+        Rule::Rows { prime, length, at } => linear::can_add(
+            file,
+            n,
+            prime as u64,
+            length,
+            at,
+            set,
+            state,
+            x,
+        ),
     }
 }
 
 // Is the set with x in the place of y allowed, for an x outside and a y inside?
-pub fn can_exchange(file: &[u8], n: usize, rule: Rule, set: &[u32], state: &[u32], x: usize, y: usize) -> bool
+pub fn can_exchange(
+    file: &[u8],
+    n: usize,
+    rule: Rule,
+    set: &[u32],
+    state: &[u32],
+    x: usize,
+    y: usize,
+) -> bool
     requires well { ⌜ Well (now file) n rule ⌝ ∗ ⌜ n ≤ 600 ⌝ ∗ ⌜ row-words n ≤ length (now set) ⌝ }
     requires ready { ⌜ Ready (now file) n rule (marked (now set)) (now state) ⌝ }
     requires outside { ⌜ x < n ⌝ ∗ ⌜ marked (now set) x ≡ false ⌝ }
@@ -55,9 +95,28 @@ pub fn can_exchange(file: &[u8], n: usize, rule: Rule, set: &[u32], state: &[u32
 {
     match rule {
         Rule::Limits { groups, at } => laminar::can_exchange(file, n, groups, at, set, state, x, y),
-        Rule::Volunteers { .. } => false,
+        Rule::Volunteers { volunteers, at } => transversal::can_exchange(
+            file,
+            n,
+            volunteers,
+            at,
+            set,
+            state,
+            x,
+            y,
+        ),
         Rule::Links { towns, at } => graphic::can_exchange(file, n, towns, at, set, state, x, y),
-        Rule::Rows { prime, length, at } => linear::can_exchange(file, n, prime as u64, length, at, set, state, x, y),
+        Rule::Rows { prime, length, at } => linear::can_exchange(
+            file,
+            n,
+            prime as u64,
+            length,
+            at,
+            set,
+            state,
+            x,
+            y,
+        ),
     }
 }
 

@@ -4,3 +4,9 @@ pub mod examples;
 pub mod functions;
 pub mod rule;
 pub mod theory;
+
+pub use functions::can_add;
+pub use functions::can_exchange;
+pub use functions::independent;
+pub use functions::kept_length;
+pub use rule::Rule;

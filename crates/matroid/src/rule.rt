@@ -4,11 +4,24 @@
 #[derive(Clone, Copy)]
 pub enum Rule {
     // Groups of offers, and how many of each a set may have.
-    Limits { groups: usize, at: usize },
+    Limits {
+        groups: usize,
+        at: usize,
+    },
     // Volunteers, and the offers that each can look after.
-    Volunteers { volunteers: usize, at: usize },
+    Volunteers {
+        volunteers: usize,
+        at: usize,
+    },
     // Towns, and a link for each offer.
-    Links { towns: usize, at: usize },
+    Links {
+        towns: usize,
+        at: usize,
+    },
     // A row of numbers modulo a prime for each offer.
-    Rows { prime: u64, length: usize, at: usize },
+    Rows {
+        prime: u64,
+        length: usize,
+        at: usize,
+    },
 }
