@@ -66,6 +66,11 @@ pub record Changed (e : ℕ → ℕ) (l m : ℕ) (which reached after : Set) (d 
   pub steps : k′ u ≡ pick (which u) l (k u)
   pub backs : back′ u ≡ pick (which u) m (back u)
 
+-- one of the elements below n of a set, of least cost, and of these of fewest steps
+abbrev pub Least : ℕ → Set → (ℕ → ℕ) → (ℕ → ℕ) → ℕ → Type 0
+Least n among d k m =
+    (m < n) × (among m ≡ true) × ((v : ℕ) → v < n → among v ≡ true → Before (d m) (k m) (d v) (k v) ≡ true)
+
 -- labels are small: what a path has cost is at most its steps times the largest weight
 abbrev pub Small-labels : ℕ → (ℕ → ℕ) → (ℕ → ℕ) → Set → (ℕ → ℕ) → (ℕ → ℕ) → ℕ → Type 0
 Small-labels n w a reached d k m =

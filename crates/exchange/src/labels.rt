@@ -1,13 +1,13 @@
 // Labels from the sources: by cost and then by steps, the least unsettled label settled first.
 ghost use Prim.Native.Nat.{ℕ, _+_, _-_, _*_, _<_, _≤_};
-ghost use Rattle.exchange.specs.Graph.{at, cost, table, takes, bettered, Changed, Priced, Shortest, Small-labels};
+ghost use Rattle.exchange.specs.Graph.{at, cost, table, takes, bettered, Changed, Priced, Shortest, Small-labels, Least};
 ghost use Rattle.exchange.specs.Round.{top, Before};
 ghost use Rattle.sets.specs.Bits.{marked, row-words};
-ghost use Rattle.sets.specs.Matroid.{pick};
+ghost use Rattle.sets.specs.Matroid.{pick, outside};
 ghost use Rattle.std.specs.Options.{Cases};
 ghost use lib.Dec.{eqb};
 ghost use lib.ListN.{length};
-ghost use mathlib.Core.Bool.{true, false, _&&_, _||_};
+ghost use mathlib.Core.Bool.{true, false, not, _&&_, _||_};
 ghost use mathlib.Core.Path.{_≡_};
 use crate::rows::holds;
 use crate::rows::joins;
@@ -81,4 +81,28 @@ fn relax(
             improve(reached, costs, steps, back, u, cost, step, v);
         }
     }
+}
+
+// Is the label (d, k) less than the label (e, l)?
+pub fn sooner(d: u32, k: u32, e: u32, l: u32) -> bool
+    ensures { λ r. ⌜ r ≡ not (Before e l d k) ⌝ }
+{
+    d < e || (d == e && k < l)
+}
+
+// The element with the least label of those that are reached and not settled.
+fn nearest(n: usize, reached: &[u32], settled: &[u32], costs: &[u32], steps: &[u32]) -> Option<usize>
+    requires { ⌜ row-words n ≤ length (now reached) ⌝ ∗ ⌜ row-words n ≤ length (now settled) ⌝ ∗ ⌜ n ≤ length (now costs) ⌝ ∗ ⌜ n ≤ length (now steps) ⌝ }
+    ensures { λ r. ⌜ Cases r ((v : ℕ) → v < n → outside (marked (now (reached .entry))) (marked (now (settled .entry))) v ≡ false) (λ m. Least n (outside (marked (now (reached .entry))) (marked (now (settled .entry)))) (at (now (costs .entry))) (at (now (steps .entry))) m) ⌝ }
+{
+    let mut least = None;
+    for v in 0..n {
+        if holds(reached, v) && !holds(settled, v) {
+            least = match least {
+                Some(m) if !sooner(costs[v], steps[v], costs[m], steps[m]) => Some(m),
+                _ => Some(v),
+            };
+        }
+    }
+    least
 }
