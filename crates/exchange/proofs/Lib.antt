@@ -1,3 +1,5 @@
+pub mod Bounds
 pub mod Cells
+pub mod Counting
 pub mod Relaxing
 pub mod Settling
