@@ -1,3 +1,4 @@
+pub mod Arcs
 pub mod Bounds
 pub mod Cells
 pub mod Counting

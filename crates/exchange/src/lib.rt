@@ -1,3 +1,4 @@
 // One round's work on lent memory: the exchange graph, labels, the end of a best path, the path itself and the dual set.
 mod labels;
 mod rows;
+mod tables;
