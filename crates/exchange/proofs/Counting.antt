@@ -47,3 +47,15 @@ size-more (suc n) s t m p q h =
   where
     below : (v : ℕ) → v < n → n ≤ m → t v ≡ s v
     below v i l = let x = h v (omega arith) in let j : v ≡ m → ⊥ = λ r. omega arith in grind arith
+
+-- a larger set is no smaller
+pub size-mono : (n : ℕ) (s t : Set) → ((v : ℕ) → v < n → s v ≡ true → t v ≡ true) → size n s ≤ size n t
+size-mono zero s t h = omega arith
+size-mono (suc n) s t h =
+    let e = size-mono n s t (λ v p. h v (omega arith)) in
+    let b = one (s n) (t n) (h n (omega arith)) in
+    omega (arith, e, b)
+  where
+    one : (a b : Bool) → (a ≡ true → b ≡ true) → pick a 1 0 ≤ pick b 1 0
+    one true b h = let e : _≡_ {A = ℕ} (pick b 1 0) 1 = ap {B = ℕ} (λ (x : Bool). pick x 1 0) (h refl) in omega (arith, e)
+    one false b h = omega arith

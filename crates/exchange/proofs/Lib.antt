@@ -2,5 +2,9 @@ pub mod Arcs
 pub mod Bounds
 pub mod Cells
 pub mod Counting
+pub mod Growing
+pub mod Leasts
 pub mod Relaxing
+pub mod Rounds
 pub mod Settling
+pub mod Walks
