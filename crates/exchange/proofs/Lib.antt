@@ -5,6 +5,7 @@ pub mod Counting
 pub mod Growing
 pub mod Leasts
 pub mod Relaxing
+pub mod RoundLabels
 pub mod Rounds
 pub mod Settling
 pub mod Walks

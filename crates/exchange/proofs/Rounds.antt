@@ -21,7 +21,7 @@ addable-parts f s x h = let p = and-parts (not (s x)) (f (with s x)) h in (oppos
     opposite true e = sym e
     opposite false e = refl
 
-addable-from : (f : Set → Bool) (s : Set) (x : ℕ) → s x ≡ false → f (with s x) ≡ true → addable f s x ≡ true
+pub addable-from : (f : Set → Bool) (s : Set) (x : ℕ) → s x ≡ false → f (with s x) ≡ true → addable f s x ≡ true
 unfolding addable
 addable-from f s x p q = ap (λ (b : Bool). not b && f (with s x)) p ∙ q
 
@@ -43,31 +43,31 @@ tail-side false true x y h = refl
 tail-side false false x y h = h
 
 module _ (n : ℕ) (f g : Set → Bool) (s : Set) (arcs sources sinks : List ℕ) (holds : Tables n f g s arcs sources sinks) where
-  to-out : (v u : ℕ) → v < n → u < n → table n arcs v u ≡ true → s v ≡ true → (s u ≡ false) × (f (with (without s v) u) ≡ true)
+  pub to-out : (v u : ℕ) → v < n → u < n → table n arcs v u ≡ true → s v ≡ true → (s u ≡ false) × (f (with (without s v) u) ≡ true)
   unfolding arc
   to-out v u p q t e = out-parts (s v) (s u) (f (with (without s v) u)) (g (with (without s u) v)) (sym (holds .each-arc v u p q) ∙ t) e
 
-  to-in : (v u : ℕ) → v < n → u < n → table n arcs v u ≡ true → s v ≡ false → (s u ≡ true) × (g (with (without s u) v) ≡ true)
+  pub to-in : (v u : ℕ) → v < n → u < n → table n arcs v u ≡ true → s v ≡ false → (s u ≡ true) × (g (with (without s u) v) ≡ true)
   unfolding arc
   to-in v u p q t e = in-parts (s v) (s u) (f (with (without s v) u)) (g (with (without s u) v)) (sym (holds .each-arc v u p q) ∙ t) e
 
-  to-sides : (v u : ℕ) → v < n → u < n → table n arcs v u ≡ true → s v ≡ not (s u)
+  pub to-sides : (v u : ℕ) → v < n → u < n → table n arcs v u ≡ true → s v ≡ not (s u)
   unfolding arc
   to-sides v u p q t = tail-side (s v) (s u) (f (with (without s v) u)) (g (with (without s u) v)) (sym (holds .each-arc v u p q) ∙ t)
 
-  from-out : (v u : ℕ) → v < n → u < n → s v ≡ true → s u ≡ false → f (with (without s v) u) ≡ true → table n arcs v u ≡ true
+  pub from-out : (v u : ℕ) → v < n → u < n → s v ≡ true → s u ≡ false → f (with (without s v) u) ≡ true → table n arcs v u ≡ true
   unfolding arc
   from-out v u p q a b c =
       holds .each-arc v u p q ∙ ap (λ (x : Bool). pick x (not (s u) && f (with (without s v) u)) (s u && g (with (without s u) v))) a
       ∙ ap (λ (x : Bool). not x && f (with (without s v) u)) b ∙ c
 
-  from-in : (v u : ℕ) → v < n → u < n → s v ≡ false → s u ≡ true → g (with (without s u) v) ≡ true → table n arcs v u ≡ true
+  pub from-in : (v u : ℕ) → v < n → u < n → s v ≡ false → s u ≡ true → g (with (without s u) v) ≡ true → table n arcs v u ≡ true
   unfolding arc
   from-in v u p q a b c =
       holds .each-arc v u p q ∙ ap (λ (x : Bool). pick x (not (s u) && f (with (without s v) u)) (s u && g (with (without s u) v))) a
       ∙ ap (λ (x : Bool). x && g (with (without s u) v)) b ∙ c
 
-  source-parts : (x : ℕ) → x < n → marked sources x ≡ true → (s x ≡ false) × (f (with s x) ≡ true)
+  pub source-parts : (x : ℕ) → x < n → marked sources x ≡ true → (s x ≡ false) × (f (with s x) ≡ true)
   source-parts x p h = addable-parts f s x (sym (holds .each-source x p) ∙ h)
 
   -- no arc of the tables has a negative cost, and the sources have no potential
