@@ -2,5 +2,6 @@
 mod dual;
 mod ends;
 mod labels;
+pub mod paths;
 mod rows;
 mod tables;
