@@ -1,5 +1,12 @@
+pub mod Arcs
+pub mod Bounds
 pub mod Cells
+pub mod Counting
+pub mod Growing
+pub mod Leasts
 pub mod Relaxing
+pub mod RoundLabels
+pub mod Rounds
 pub mod Settling
 pub mod Along
 pub mod BestPaths
@@ -7,3 +14,4 @@ pub mod Cuts
 pub mod Cycles
 pub mod Shorten
 pub mod Shortcuts
+pub mod Walks
