@@ -35,6 +35,14 @@ among-all z (suc m) v s b all h = ⊎-elim
     (λ (e : v ≡ z m → ⊥). let l : among z m v ≡ true = grind arith in among-all z m v s b (λ i p. all i (omega arith)) l)
     (cases-eq v (z m))
 
+-- two sequences with the same elements
+pub among-same : (z u : ℕ → ℕ) (m v : ℕ) → ((i : ℕ) → i < m → among u m (z i) ≡ true) → ((i : ℕ) → i < m → among z m (u i) ≡ true) →
+    among z m v ≡ among u m v
+among-same z u m v to from = equal (among z m v) (among u m v) (among-all z m v (among u m) true to) (among-all u m v (among z m) true from)
+  where
+    equal : (p q : Bool) → (p ≡ true → q ≡ true) → (q ≡ true → p ≡ true) → p ≡ q
+    equal p q h l = grind arith
+
 -- the first may be taken out in front
 pub among-front : (z : ℕ → ℕ) (m v : ℕ) → among z (suc m) v ≡ (eqb v (z 0) || among (λ i. z (suc i)) m v)
 among-front z zero v = refl
