@@ -1,1 +1,2 @@
-// (empty)
+// Matroids over offers: theorems on any of them.
+pub mod theory;

@@ -1,0 +1,3 @@
+pub mod ManyExchanges
+pub mod OneMatroid
+pub mod TightExchanges
