@@ -3,6 +3,7 @@ pub mod BestPaths
 pub mod Chains
 pub mod Cuts
 pub mod Cycles
+pub mod DualSets
 pub mod LabelPaths
 pub mod Shorten
 pub mod Shortcuts
