@@ -52,8 +52,16 @@ module _ (n : ℕ) (f g : Set → Bool) (w a : ℕ → ℕ) (s reached : Set) (d
           (d (mark back t i) + a (mark back t i) ≡ d (back (mark back t i)) + a (back (mark back t i))) × (k (mark back t i) ≡ k (back (mark back t i)) + 1)) → Inner n f g w a s reached d k back t i
       from p =
           let q = labels .from-second (back (mark back t i)) (p .0) (p .1) (p .2) in
-          record { below = p .0; held = p .1; by-first = p .3; by-second = q .3; cost-first = p .4; cost-second = q .4; steps = p .5
-                 ; next = record { below = q .0; fresh = q .1; found = q .2; steps = omega (arith, o .steps, p .5, q .5) } }
+          record {
+            below = p .0;
+            held = p .1;
+            by-first = p .3;
+            by-second = q .3;
+            cost-first = p .4;
+            cost-second = q .4;
+            steps = p .5;
+            next = record { below = q .0; fresh = q .1; found = q .2; steps = omega (arith, o .steps, p .5, q .5) };
+          }
 
   -- a reached element outside of the set has at least one step
   one-step : (i : ℕ) → Outer n s reached k back t i → k (mark back t i) ≤ 1 → (k (mark back t i) ≡ 1) × (f (with s (mark back t i)) ≡ true) × (d (mark back t i) ≡ 0)
@@ -67,7 +75,7 @@ module _ (n : ℕ) (f g : Set → Bool) (w a : ℕ → ℕ) (s reached : Set) (d
   ends zero i h o = absurd (omega arith)
   ends (suc m) i h o = ⊎-elim
       (λ (more : 1 < k (mark back t i)). let p = inner i o more in
-          ends m (suc i) (omega (arith, p .next .steps, o .steps)) (p .next))
+      ends m (suc i) (omega (arith, p .next .steps, o .steps)) (p .next))
       (λ (few : k (mark back t i) ≤ 1). (i, omega (arith, one-step i o few .0, o .steps)))
       (cases-lt 1 (k (mark back t i)))
 

@@ -21,7 +21,6 @@ before-tells d k e l h = (grind arith, λ s. grind arith)
 module _ (n : ℕ) (f g : Set → Bool) (w a : ℕ → ℕ) (loss : ℕ) (s reached : Set) (d k back : ℕ → ℕ) (t : ℕ)
     (light : (x : ℕ) → x < n → w x ≤ top) (state : State n f g w a loss s)
     (labels : Labels n f g w a s reached d k back) (end : End n g w a s reached d k t) where
-
   -- along any path the labels cost no more than the path
   abbrev Reached : ℕ → (ℕ → ℕ) → (ℕ → ℕ) → Type 0
   Reached j u v = (reached (u j) ≡ true) × (total w u j + (d (u j) + a (u j)) ≤ total w v j) ×
@@ -37,19 +36,22 @@ module _ (n : ℕ) (f g : Set → Bool) (w a : ℕ → ℕ) (loss : ℕ) (s reac
   walked l u v path (suc j) h =
       let r = walked l u v path j (omega arith) in
       let p = labels .out (u j) (v j) (path .route .x-below j (omega arith)) (path .route .y-below j h) (path .route .x-fresh j (omega arith))
-          (path .route .y-held j h) (r .0) (path .route .by-second j h) in
+      (path .route .y-held j h) (r .0) (path .route .by-second j h) in
       let q = labels .into (v j) (u (suc j)) (path .route .y-below j h) (path .route .x-below (suc j) h) (path .route .y-held j h)
-          (path .route .x-fresh (suc j) h) (p .0) (path .route .by-first j h) in
+      (path .route .x-fresh (suc j) h) (p .0) (path .route .by-first j h) in
       let lp = before-tells (d (v j) + (w (u j) + a (v j))) (k (v j)) (d (u j) + (w (v j) + a (u j))) (k (u j) + 1) (p .1) in
       let lq = before-tells (d (u (suc j)) + a (u (suc j))) (k (u (suc j))) (d (v j) + a (v j)) (k (v j) + 1) (q .1) in
       let s1 : total w u j + (d (u j) + a (u j)) ≤ total w v j = r .1 in
       let s2 : d (v j) + (w (u j) + a (v j)) ≤ d (u j) + (w (v j) + a (u j)) = lp .0 in
-      let s3 : d (u (suc j)) + a (u (suc j)) ≤ d (v j) + a (v j) = lq .0 in
-      (q .0, omega arith, λ e.
-          let e1 : k (u j) ≤ suc (twice j) = r .2 (omega arith) in
-          let e2 : k (v j) ≤ k (u j) + 1 = lp .1 (omega arith) in
-          let e3 : k (u (suc j)) ≤ k (v j) + 1 = lq .1 (omega arith) in
-          omega arith)
+      let s3 : d (u (suc j)) + a (u (suc j)) ≤ d (v j) + a (v j) = lq .0 in (
+        q .0,
+        omega arith,
+        λ e.
+            let e1 : k (u j) ≤ suc (twice j) = r .2 (omega arith) in
+            let e2 : k (v j) ≤ k (u j) + 1 = lp .1 (omega arith) in
+            let e3 : k (u (suc j)) ≤ k (v j) + 1 = lq .1 (omega arith) in
+            omega arith,
+      )
 
   module _ (m : ℕ) (whole : k t ≡ suc (twice m)) where
     at : (i : ℕ) → i ≤ m → Outer n s reached k back t i
@@ -64,20 +66,23 @@ module _ (n : ℕ) (f g : Set → Bool) (w a : ℕ → ℕ) (loss : ℕ) (s reac
 
     -- the predecessors are a path
     path : Augmenting n f g s m (comes back t m) (goes back t m)
-    path = record
-        { source = subst (λ j. f (with s (mark back t j)) ≡ true) (from-zero m) (first-source n f g w a s reached d k back t labels end m whole .1)
-        ; route = record
-            { x-below = λ i h. at (m - i) (omega arith) .below
-            ; x-fresh = λ i h. at (m - i) (omega arith) .fresh
-            ; y-below = λ i h. before (m - suc i) (omega arith) .below
-            ; y-held = λ i h. before (m - suc i) (omega arith) .held
-            ; by-second = λ i h. subst (λ j. g (with (without s (goes back t m i)) (mark back t j)) ≡ true) (mirror i h)
-                (before (m - suc i) (omega arith) .by-second)
-            ; by-first = λ i h. before (m - suc i) (omega arith) .by-first
-            ; sink = subst (λ j. g (with s (mark back t j)) ≡ true) (zeroed m) (end .fits) } }
+    path = record {
+      source = subst (λ j. f (with s (mark back t j)) ≡ true) (from-zero m) (first-source n f g w a s reached d k back t labels end m whole .1);
+      route = record {
+        x-below = λ i h. at (m - i) (omega arith) .below;
+        x-fresh = λ i h. at (m - i) (omega arith) .fresh;
+        y-below = λ i h. before (m - suc i) (omega arith) .below;
+        y-held = λ i h. before (m - suc i) (omega arith) .held;
+        by-second = λ i h. subst (λ j. g (with (without s (goes back t m i)) (mark back t j)) ≡ true) (mirror i h)
+            (before (m - suc i) (omega arith) .by-second);
+        by-first = λ i h. before (m - suc i) (omega arith) .by-first;
+        sink = subst (λ j. g (with s (mark back t j)) ≡ true) (zeroed m) (end .fits);
+      };
+    }
       where
         zeroed : (m : ℕ) → 0 ≡ m - m
         zeroed m = omega arith
+
         from-zero : (m : ℕ) → m ≡ m - 0
         from-zero m = omega arith
 
@@ -93,8 +98,8 @@ module _ (n : ℕ) (f g : Set → Bool) (w a : ℕ → ℕ) (loss : ℕ) (s reac
         let p = before (m - suc j) (omega arith) in
         let one : d (comes back t m (suc j)) + a (comes back t m (suc j)) ≡ d (goes back t m j) + a (goes back t m j) = p .cost-first in
         let two : d (goes back t m j) + (w (comes back t m j) + a (goes back t m j)) ≡ d (comes back t m j) + (w (goes back t m j) + a (comes back t m j)) =
-            subst (λ q. d (goes back t m j) + (w (mark back t q) + a (goes back t m j)) ≡ d (mark back t q) + (w (goes back t m j) + a (mark back t q)))
-                (mirror j h) (p .cost-second) in
+        subst (λ q. d (goes back t m j) + (w (mark back t q) + a (goes back t m j)) ≡ d (mark back t q) + (w (goes back t m j) + a (mark back t q)))
+        (mirror j h) (p .cost-second) in
         omega arith
 
     -- the path adds what the labels say
@@ -104,10 +109,11 @@ module _ (n : ℕ) (f g : Set → Bool) (w a : ℕ → ℕ) (loss : ℕ) (s reac
         let r : total w (comes back t m) m + (d (comes back t m m) + a (comes back t m m)) ≡ total w (goes back t m) m = so-far m (omega arith) in
         let l : w t ≤ top = light t (end .below) in
         sums (w (comes back t m m)) (w t) (d (comes back t m m)) (d t) (a (comes back t m m)) (a t)
-            (total w (comes back t m) m) (total w (goes back t m) m) top (ap w last) (ap d last) (ap a last) r l
+        (total w (comes back t m) m) (total w (goes back t m) m) top (ap w last) (ap d last) (ap a last) r l
       where
         zeroed : (m : ℕ) → m - m ≡ 0
         zeroed m = omega arith
+
         sums : (w0 w1 d0 d1 a0 a1 p q top : ℕ) → w0 ≡ w1 → d0 ≡ d1 → a0 ≡ a1 → p + (d0 + a0) ≡ q → w1 ≤ top →
             w0 + p + (d1 + a1 + (top - w1)) ≡ q + top
         sums w0 w1 d0 d1 a0 a1 p q top ew ed ea h l = omega arith
@@ -118,31 +124,34 @@ module _ (n : ℕ) (f g : Set → Bool) (w a : ℕ → ℕ) (loss : ℕ) (s reac
     path-best l u v other =
         let r = walked l u v other l (omega arith) in
         let p = before-tells (lost w a d t) (k t) (lost w a d (u l)) (k (u l))
-            (end .least (u l) (other .route .x-below l (omega arith)) (other .route .x-fresh l (omega arith)) (r .0) (other .route .sink)) in
+        (end .least (u l) (other .route .x-below l (omega arith)) (other .route .x-fresh l (omega arith)) (r .0) (other .route .sink)) in
         let s1 : total w u l + (d (u l) + a (u l)) ≤ total w v l = r .1 in
         let s2 : lost w a d t ≤ lost w a d (u l) = p .0 in
         let s3 : total w (comes back t m) (suc m) + lost w a d t ≡ total w (goes back t m) m + top = path-adds in
         let s4 : w (u l) ≤ top = light (u l) (other .route .x-below l (omega arith)) in
         less (total w u l) (w (u l)) (total w v l) (d (u l) + a (u l)) (total w (comes back t m) (suc m)) (total w (goes back t m) m) (lost w a d t) top
-            (k t) (k (u l)) m l whole s1 s2 s3 s4 (p .1) (r .2)
+        (k t) (k (u l)) m l whole s1 s2 s3 s4 (p .1) (r .2)
       where
         less : (tu wu tv c tx ty lost top kt ku m l : ℕ) → kt ≡ suc (twice m) → tu + c ≤ tv → lost ≤ c + (top - wu) → tx + lost ≡ ty + top → wu ≤ top →
             (lost ≡ c + (top - wu) → kt ≤ ku) → (tu + c ≡ tv → ku ≤ suc (twice l)) →
             (wu + tu + ty ≤ tx + tv) × (wu + tu + ty ≡ tx + tv → m ≤ l)
-        less tu wu tv c tx ty lost top kt ku m l e h1 h2 h3 h4 i1 i2 =
-            (omega arith, λ same.
-                let e1 : kt ≤ ku = i1 (omega arith) in
-                let e2 : ku ≤ suc (twice l) = i2 (omega arith) in
-                let tm : twice m ≡ m + m = twice-is m in
-                let tl : twice l ≡ l + l = twice-is l in
-                omega arith)
+        less tu wu tv c tx ty lost top kt ku m l e h1 h2 h3 h4 i1 i2 = (
+          omega arith,
+          λ same.
+              let e1 : kt ≤ ku = i1 (omega arith) in
+              let e2 : ku ≤ suc (twice l) = i2 (omega arith) in
+              let tm : twice m ≡ m + m = twice-is m in
+              let tl : twice l ≡ l + l = twice-is l in
+              omega arith,
+        )
 
     -- so it is a best one
     best-path : Best-path n f g w s m (comes back t m) (goes back t m)
-    best-path = record
-        { path = path
-        ; most = λ l u v other once. path-best l u v other .0
-        ; fewest = λ l u v other once. path-best l u v other .1 }
+    best-path = record {
+      path = path;
+      most = λ l u v other once. path-best l u v other .0;
+      fewest = λ l u v other once. path-best l u v other .1;
+    }
 
     -- the marks and their predecessors are different, since their steps are
     marks-differ : (i j : ℕ) → i ≤ m → j < i → mark back t j ≡ mark back t i → ⊥
@@ -224,10 +233,13 @@ module _ (n : ℕ) (f g : Set → Bool) (w a : ℕ → ℕ) (loss : ℕ) (s reac
 
     -- the predecessors of the end
     predecessors : Predecessors n f g w a s d k back t m
-    predecessors = record
-        { steps = whole; best = best-path; adds = path-adds
-        ; changed = λ v. subst (λ j. toggled s back t j v ≡ along s (comes back t m) (goes back t m) m v) (sym whole)
-            (joined (s v) (toggled s back t (suc (twice m)) v) (changed-all v) (same-backs v) (same-marks v)) }
+    predecessors = record {
+      steps = whole;
+      best = best-path;
+      adds = path-adds;
+      changed = λ v. subst (λ j. toggled s back t j v ≡ along s (comes back t m) (goes back t m) m v) (sym whole)
+          (joined (s v) (toggled s back t (suc (twice m)) v) (changed-all v) (same-backs v) (same-marks v));
+    }
       where
         joined : (p o : Bool) {q q′ r r′ : Bool} → o ≡ ((p && not q) || r) → q′ ≡ q → r′ ≡ r → o ≡ ((p && not q′) || r′)
         joined p o h1 h2 h3 = cc

@@ -4,6 +4,7 @@ pub mod Chains
 pub mod Cuts
 pub mod Cycles
 pub mod DualSets
+pub mod Growing
 pub mod LabelPaths
 pub mod Shorten
 pub mod Shortcuts

@@ -1,1 +1,2 @@
-// (empty)
+// Augmenting paths between two matroids.
+pub mod theory;
