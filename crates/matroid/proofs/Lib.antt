@@ -1,3 +1,5 @@
+pub mod Gains
 pub mod ManyExchanges
 pub mod OneMatroid
+pub mod Optimality
 pub mod TightExchanges

@@ -1,6 +1,7 @@
 // What is proved of every matroid, and of every two matroids over the same elements. Each function's contract names its theorem.
 ghost use Rattle.matroid.specs.Exchanges.{Extension, Exchange, As-good-as-best, Best-of-one-more, Carry, Many-exchanges, Many-exchanges-and-one, Many-exchanges-by-keys, Many-exchanges-by-keys-and-one, Tight-exchanges, Tight-exchanges-and-one};
-ghost use Rattle.matroid.specs.Optimal.{Heaviest-by-one};
+ghost use Rattle.matroid.specs.Gains.{Gains-by-one, Gains-never-rise};
+ghost use Rattle.matroid.specs.Optimal.{Heaviest-by-one, Largest, Heaviest, Heaviest-signed, Exchanges-suffice};
 
 // An allowed set can be filled up from another that is no smaller.
 pub fn sets_can_be_filled_up() -> u8
@@ -82,6 +83,48 @@ pub fn tight_exchanges() -> u8
 // The same after one of the heaviest elements that can be added is added.
 pub fn tight_exchanges_and_one_more() -> u8
     ensures { λ _. ⌜ Tight-exchanges-and-one ⌝ }
+{
+    0
+}
+
+// Two matroids: a set with a dual set is a largest one that both allow.
+pub fn dual_sets_show_largest() -> u8
+    ensures { λ _. ⌜ Largest ⌝ }
+{
+    0
+}
+
+// Two matroids: a set with a weight splitting is a heaviest one of its size.
+pub fn splittings_show_heaviest() -> u8
+    ensures { λ _. ⌜ Heaviest ⌝ }
+{
+    0
+}
+
+// The same for numbers of either sign that add up to the weights.
+pub fn signed_splittings_show_heaviest() -> u8
+    ensures { λ _. ⌜ Heaviest-signed ⌝ }
+{
+    0
+}
+
+// The numbers need to be compared over exchanges only.
+pub fn exchanges_suffice() -> u8
+    ensures { λ _. ⌜ Exchanges-suffice ⌝ }
+{
+    0
+}
+
+// One matroid: from size to size no more is gained than before.
+pub fn gains_by_one_never_rise() -> u8
+    ensures { λ _. ⌜ Gains-by-one ⌝ }
+{
+    0
+}
+
+// Two matroids: from size to size no more is gained than before.
+pub fn gains_never_rise() -> u8
+    ensures { λ _. ⌜ Gains-never-rise ⌝ }
 {
     0
 }
