@@ -27,11 +27,14 @@ rest-parts w a loss h = omega arith
 
 -- a state holds a weight splitting
 pub state-split : (n : ℕ) (f g : Set → Bool) (w a : ℕ → ℕ) (loss : ℕ) (s : Set) → State n f g w a loss s → Split n f g w a (rest w a loss) s
-state-split n f g w a loss s state = record
-    { first = state .first; second = state .second; lift = loss
-    ; parts = λ x h. rest-parts (w x) (a x) loss (state .small x h)
-    ; best-first = state .first-best
-    ; best-second = λ y x hy hx held out arc. less (w x) (a x) (w y) (a y) loss (state .second-best y x hy hx held out arc) (state .small y hy) (state .small x hx) }
+state-split n f g w a loss s state = record {
+  first = state .first;
+  second = state .second;
+  lift = loss;
+  parts = λ x h. rest-parts (w x) (a x) loss (state .small x h);
+  best-first = state .first-best;
+  best-second = λ y x hy hx held out arc. less (w x) (a x) (w y) (a y) loss (state .second-best y x hy hx held out arc) (state .small y hy) (state .small x hx);
+}
   where
     less : (wx ax wy ay loss : ℕ) → wx + ay ≤ wy + ax → ay ≤ loss → ax ≤ loss → wx + (loss - ax) ≤ wy + (loss - ay)
     less wx ax wy ay loss h l m = omega arith
@@ -98,22 +101,23 @@ module _ (n : ℕ) (f g : Set → Bool) (w a : ℕ → ℕ) (loss : ℕ) (s : Se
         let start-size : size n (with s (x 0)) ≡ suc (size n s) = size-with n s (x 0) (path .route .x-below 0 (omega arith)) (path .route .x-fresh 0 (omega arith)) in
         let end-size : size n (with s z) ≡ suc (size n s) = size-with n s z hz out in
         let start-weight : weight n a (with s (x 0)) ≡ weight n a s + a (x 0) =
-            weight-with n a s (x 0) (path .route .x-below 0 (omega arith)) (path .route .x-fresh 0 (omega arith)) in
+        weight-with n a s (x 0) (path .route .x-below 0 (omega arith)) (path .route .x-fresh 0 (omega arith)) in
         let end-weight : weight n b (with s z) ≡ weight n b s + b z = weight-with n b s z hz out in
         let new-size : size n new ≡ suc (size n s) = aug .sized in
         let la : weight n a new ≤ weight n a (with s (x 0)) =
-            heaviest-by-one n f a (with s (x 0)) new first (path .source) (aug .first) (omega arith) start-best in
+        heaviest-by-one n f a (with s (x 0)) new first (path .source) (aug .first) (omega arith) start-best in
         let lb : weight n b new ≤ weight n b (with s z) =
-            heaviest-by-one n g b (with s z) new second sink (aug .second) (omega arith) end-best in
+        heaviest-by-one n g b (with s z) new second sink (aug .second) (omega arith) end-best in
         let bz : b z ≤ top = sink-part z hz out sink in
         let gained : weight n w new + total w y k ≡ weight n w s + total w x (suc k) = aug .gained in
         let both : (weight n a new ≡ weight n a (with s (x 0))) × (weight n b new ≡ weight n b (with s z)) =
-            tight (weight n a s) (weight n b s) (weight n w s) (loss * size n s) (weight n a new) (weight n b new) (weight n w new) loss
-                (weight n a (with s (x 0))) (weight n b (with s z)) (a (x 0)) (b z) top (total w x (suc k)) (total w y k)
-                old-sum new-sum start-weight end-weight start-zero bz la lb gained adds in
-        record
-        { first-best = as-good-as-best n f a (with s (x 0)) new first (path .source) (aug .first) (omega arith) (both .0) start-best
-        ; second-best = as-good-as-best n g b (with s z) new second sink (aug .second) (omega arith) (both .1) end-best }
+        tight (weight n a s) (weight n b s) (weight n w s) (loss * size n s) (weight n a new) (weight n b new) (weight n w new) loss
+        (weight n a (with s (x 0))) (weight n b (with s z)) (a (x 0)) (b z) top (total w x (suc k)) (total w y k)
+        old-sum new-sum start-weight end-weight start-zero bz la lb gained adds in
+        record {
+          first-best = as-good-as-best n f a (with s (x 0)) new first (path .source) (aug .first) (omega arith) (both .0) start-best;
+          second-best = as-good-as-best n g b (with s z) new second sink (aug .second) (omega arith) (both .1) end-best;
+        }
       where
         tight : (ao bo wo c an bn wn loss ax bz a0 b0 top tx ty : ℕ) → ao + bo ≡ wo + c → an + bn ≡ wn + (c + loss) → ax ≡ ao + a0 → bz ≡ bo + b0 →
             a0 ≡ 0 → b0 ≤ top → an ≤ ax → bn ≤ bz → wn + ty ≡ wo + tx → tx + loss ≡ ty + top → (an ≡ ax) × (bn ≡ bz)
@@ -123,14 +127,17 @@ module _ (n : ℕ) (f g : Set → Bool) (w a : ℕ → ℕ) (loss : ℕ) (s : Se
   found = moved (heaviest-sink .0) (heaviest-sink .1) (front (s (heaviest-sink .0)) (g (with s (heaviest-sink .0))) (heaviest-sink .2))
       (behind (s (heaviest-sink .0)) (g (with s (heaviest-sink .0))) (heaviest-sink .2))
       (λ v h out sink. flip (b v) (b (heaviest-sink .0)) top (sink-part v h out sink)
-          (heaviest-sink .3 v h (joined (s v) (g (with s v)) out sink)))
+      (heaviest-sink .3 v h (joined (s v) (g (with s v)) out sink)))
     where
       front : (p q : Bool) → (not p && q) ≡ true → p ≡ false
       front p q e = grind arith
+
       behind : (p q : Bool) → (not p && q) ≡ true → q ≡ true
       behind p q e = grind arith
+
       joined : (p q : Bool) → p ≡ false → q ≡ true → (not p && q) ≡ true
       joined p q h l = grind arith
+
       flip : (p q top : ℕ) → p ≤ top → top - q ≤ top - p → p ≤ q
       flip p q top h l = omega arith
 
@@ -149,20 +156,23 @@ module _ (n : ℕ) (f g : Set → Bool) (w a : ℕ → ℕ) (loss : ℕ) (s : Se
 
   -- the new set has the same potentials and the same loss
   pub moves : State n f g w a loss (along s x y k)
-  moves = record
-      { first = aug .first; second = aug .second
-      ; first-best = found .first-best
-      ; second-best = λ v u hv hu held out arc. less (w u) (a u) (w v) (a v) loss (found .second-best v u hv hu held out arc) (state .small u hu) (state .small v hv)
-      ; sources = λ u h out source.
-          let l : a u ≤ a (x 0) = found .first-best (x 0) u (path .route .x-below 0 (omega arith)) h start-in out (comes-for n f new (x 0) u first source) in
-          omega (arith, start-zero)
-      ; sinks = λ u h out sink.
-          let l : b u ≤ b (x k) = found .second-best (x k) u (path .route .x-below k (omega arith)) h end-in out (comes-for n g new (x k) u second sink) in
-          let e : b (x k) ≤ top = sink-part (x k) (path .route .x-below k (omega arith)) (path .route .x-fresh k (omega arith)) (path .route .sink) in
-          plain (w u) (a u) loss (b (x k)) top l e
-      ; small = state .small }
+  moves = record {
+    first = aug .first;
+    second = aug .second;
+    first-best = found .first-best;
+    second-best = λ v u hv hu held out arc. less (w u) (a u) (w v) (a v) loss (found .second-best v u hv hu held out arc) (state .small u hu) (state .small v hv);
+    sources = λ u h out source.
+        let l : a u ≤ a (x 0) = found .first-best (x 0) u (path .route .x-below 0 (omega arith)) h start-in out (comes-for n f new (x 0) u first source) in
+        omega (arith, start-zero);
+    sinks = λ u h out sink.
+        let l : b u ≤ b (x k) = found .second-best (x k) u (path .route .x-below k (omega arith)) h end-in out (comes-for n g new (x k) u second sink) in
+        let e : b (x k) ≤ top = sink-part (x k) (path .route .x-below k (omega arith)) (path .route .x-fresh k (omega arith)) (path .route .sink) in
+        plain (w u) (a u) loss (b (x k)) top l e;
+    small = state .small;
+  }
     where
       less : (wx ax wy ay loss : ℕ) → wx + (loss - ax) ≤ wy + (loss - ay) → ax ≤ loss → ay ≤ loss → wx + ay ≤ wy + ax
       less wx ax wy ay loss h l m = omega arith
+
       plain : (w a loss c top : ℕ) → w + (loss - a) ≤ c → c ≤ top → w + loss ≤ top + a
       plain w a loss c top h l = omega arith

@@ -1,1 +1,2 @@
-// (empty)
+// Heaviest sets of every size for two matroids.
+pub mod theory;
