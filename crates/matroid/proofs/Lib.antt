@@ -2,4 +2,5 @@ pub mod Gains
 pub mod ManyExchanges
 pub mod OneMatroid
 pub mod Optimality
+pub mod SmallMatroids
 pub mod TightExchanges

@@ -1,2 +1,3 @@
 // Matroids over offers: theorems on any of them.
+pub mod examples;
 pub mod theory;
