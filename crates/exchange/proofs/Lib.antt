@@ -7,4 +7,5 @@ pub mod DualSets
 pub mod Growing
 pub mod LabelPaths
 pub mod Shorten
+pub mod SmallPaths
 pub mod Shortcuts

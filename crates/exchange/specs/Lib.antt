@@ -1,3 +1,4 @@
+pub mod Examples
 pub mod Paths
 pub mod Predecessors
 pub mod Round

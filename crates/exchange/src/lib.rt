@@ -1,2 +1,3 @@
 // Augmenting paths between two matroids.
+pub mod examples;
 pub mod theory;

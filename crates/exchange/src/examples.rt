@@ -1,0 +1,23 @@
+// The theorems on paths used at two small matroids on three elements. Each function's contract names what is shown there.
+ghost use Rattle.exchange.specs.Examples.{Small-labelled, Small-path, Small-dual};
+
+// A state, complete labels and their end at the two small matroids, and the path that they give.
+pub fn small_labels() -> u8
+    ensures { λ _. ⌜ Small-labelled ⌝ }
+{
+    0
+}
+
+// A best path at the two small matroids, and the set that it leads to.
+pub fn small_path() -> u8
+    ensures { λ _. ⌜ Small-path ⌝ }
+{
+    0
+}
+
+// A choice of the two small matroids with no path, and the dual set that it has.
+pub fn small_dual() -> u8
+    ensures { λ _. ⌜ Small-dual ⌝ }
+{
+    0
+}
