@@ -30,7 +30,7 @@ below-three P a b c (suc (suc (suc x))) h = absurd (omega arith)
 is-one : (P : ℕ → Type 0) → P 1 → (y : ℕ) → middle y ≡ true → P y
 is-one P p y h = subst P (sym (eqb-true y 1 h)) p
 
-light : (x : ℕ) → x < 3 → price x ≤ top
+pub light : (x : ℕ) → x < 3 → price x ≤ top
 light x h = below-three (λ v. price v ≤ top) (omega arith) (omega arith) (omega arith) x h
 
 small-state : State 3 left right price (λ x. 0) 999995 middle

@@ -1,3 +1,4 @@
 pub mod Moving
 pub mod Raised
 pub mod Rounds
+pub mod SmallRounds

@@ -1,2 +1,3 @@
 // Heaviest sets of every size for two matroids.
+pub mod examples;
 pub mod theory;

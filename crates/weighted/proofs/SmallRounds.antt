@@ -1,0 +1,27 @@
+-- The theorems on rounds at two small matroids on three elements.
+use mathlib.Core.Path.{_≡_, refl}
+use mathlib.Core.Bool.{Bool, true, false}
+use Prim.Native.Nat.{ℕ, _≤_, _<_}
+use Rattle.sets.specs.Matroid.{Set}
+use Rattle.matroid.specs.Examples.{left, right, price, middle}
+use Rattle.matroid.proofs.SmallMatroids.{small-matroids}
+use Rattle.exchange.specs.Examples.{costs, steps, earlier, coming, going}
+use Rattle.exchange.proofs.SmallPaths.{light, small-labelled, small-path}
+use Rattle.weighted.specs.Examples.{Small-round, Small-state}
+use Rattle.weighted.proofs.Rounds.{round, best-next, state-splits, state-heaviest}
+
+-- the round after 1 is chosen, and the same by its path
+pub small-round : Small-round
+small-round = (
+  round 3 left right price (λ x. 0) 999995 middle (λ x. true) costs steps earlier 0 (small-matroids .0) (small-matroids .1) light
+      (small-labelled .0) (small-labelled .1) (small-labelled .2),
+  best-next 3 left right price (λ x. 0) 999995 middle (λ x. true) costs steps earlier 0 1 coming going (small-matroids .0) (small-matroids .1) light
+      (small-labelled .0) (small-labelled .1) (small-labelled .2) (small-path .0),
+)
+
+-- what the state of 1 says
+pub small-state : Small-state
+small-state = (
+  state-splits 3 left right price (λ x. 0) 999995 middle (small-matroids .0) (small-matroids .1) (small-labelled .0),
+  (λ t lt rt same. state-heaviest 3 left right price (λ x. 0) 999995 middle t (small-matroids .0) (small-matroids .1) (small-labelled .0) lt rt same),
+)

@@ -1,0 +1,25 @@
+-- The theorems on rounds at the two small matroids on the elements 0, 1 and 2: not both of 0 and 1, and not both of 1 and 2.
+-- Assumes nothing: facts whose proofs are owed by the functions that name them.
+use mathlib.Core.Path.{_≡_}
+use mathlib.Core.Bool.{Bool, true}
+use Prim.Native.Nat.{ℕ, _≤_}
+use lib.IntN.{pos, _-ℤ_}
+use Rattle.sets.specs.Matroid.{Set, size, weight}
+use Rattle.matroid.specs.Optimal.{Signed-split}
+use Rattle.matroid.specs.Examples.{left, right, price, middle}
+use Rattle.exchange.specs.Round.{State}
+use Rattle.exchange.specs.Paths.{along}
+use Rattle.exchange.specs.Examples.{costs, steps, earlier, coming, going}
+use Rattle.weighted.specs.Next.{raised, Next}
+
+-- the round after 1 is chosen: 2 and 0 come, 1 goes, and 1 is gained
+abbrev pub Small-round : Type 0
+Small-round =
+    Next 3 left right price (λ x. 0) 999995 middle (λ x. true) costs steps earlier 0 ×
+    State 3 left right price (raised (λ x. true) (λ x. 0) costs 4) 999999 (along middle coming going 1)
+
+-- the state of 1 splits the weights, and 1 is a heaviest choice of one element
+abbrev pub Small-state : Type 0
+Small-state =
+    Signed-split 3 left right price (λ x. pos 0) (λ x. pos (price x) -ℤ pos 0) middle ×
+    ((t : Set) → left t ≡ true → right t ≡ true → size 3 t ≡ 1 → weight 3 price t ≤ 5)

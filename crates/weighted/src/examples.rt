@@ -1,0 +1,16 @@
+// The theorems on rounds used at two small matroids on three elements. Each function's contract names what is shown there.
+ghost use Rattle.weighted.specs.Examples.{Small-round, Small-state};
+
+// A round at the two small matroids.
+pub fn small_round() -> u8
+    ensures { λ _. ⌜ Small-round ⌝ }
+{
+    0
+}
+
+// A state at the two small matroids, the splitting that it holds and the heaviest choice that it shows.
+pub fn small_state() -> u8
+    ensures { λ _. ⌜ Small-state ⌝ }
+{
+    0
+}
