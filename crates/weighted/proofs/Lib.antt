@@ -1,3 +1,5 @@
+pub mod Existence
+pub mod LabelsExist
 pub mod Moving
 pub mod Raised
 pub mod Rounds

@@ -1,6 +1,6 @@
 // What is proved of a round for any two matroids over the same elements. Each function's contract names its theorem.
 ghost use Rattle.weighted.specs.Next.{Round};
-ghost use Rattle.weighted.specs.Steps.{State-splits, State-heaviest, Best-next};
+ghost use Rattle.weighted.specs.Steps.{State-splits, State-heaviest, Best-next, Labels-exist, Next-or-dual, States-exist, Dual-exists, Heaviest-gains-never-rise};
 
 // From a state, complete labels and the end that they choose to the next state: the changed set has one element more
 // and the gained weight, both matroids allow it, the raised potentials are its own, and the loss does not fall.
@@ -27,6 +27,41 @@ pub fn states_are_heaviest() -> u8
 // Whichever best path is taken, the raised potentials are those of the set that it leads to.
 pub fn any_best_path_leads_on() -> u8
     ensures { λ _. ⌜ Best-next ⌝ }
+{
+    0
+}
+
+// Every state has complete labels.
+pub fn labels_exist() -> u8
+    ensures { λ _. ⌜ Labels-exist ⌝ }
+{
+    0
+}
+
+// A state has a next one, of one element more, or its set has a dual set.
+pub fn states_lead_on_or_have_a_dual_set() -> u8
+    ensures { λ _. ⌜ Next-or-dual ⌝ }
+{
+    0
+}
+
+// There is a state of every size up to the largest, so a heaviest set of each size has a weight splitting.
+pub fn states_exist() -> u8
+    ensures { λ _. ⌜ States-exist ⌝ }
+{
+    0
+}
+
+// Any two matroids have a set that both allow with a dual set.
+pub fn dual_sets_exist() -> u8
+    ensures { λ _. ⌜ Dual-exists ⌝ }
+{
+    0
+}
+
+// From one size to the next a heaviest set gains no more than from the size before.
+pub fn gains_of_heaviest_sets_never_rise() -> u8
+    ensures { λ _. ⌜ Heaviest-gains-never-rise ⌝ }
 {
     0
 }
