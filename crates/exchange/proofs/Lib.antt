@@ -7,6 +7,7 @@ pub mod DualSets
 pub mod Growing
 pub mod LabelPaths
 pub mod Settling
-pub mod Shorten
-pub mod SmallPaths
 pub mod Shortcuts
+pub mod Shorten
+pub mod ShortestLabels
+pub mod SmallPaths
