@@ -6,6 +6,7 @@ pub mod Cycles
 pub mod DualSets
 pub mod Growing
 pub mod LabelPaths
+pub mod Needed
 pub mod Settling
 pub mod Shortcuts
 pub mod Shorten

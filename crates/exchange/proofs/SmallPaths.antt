@@ -20,14 +20,14 @@ use Rattle.exchange.proofs.DualSets.{dual-by-closed, dual-by-no-path, leading-
 use Rattle.exchange.proofs.LabelPaths.{labels-best}
 
 -- what holds at 0, 1 and 2 holds below 3
-below-three : (P : ℕ → Type 0) → P 0 → P 1 → P 2 → (x : ℕ) → x < 3 → P x
+pub below-three : (P : ℕ → Type 0) → P 0 → P 1 → P 2 → (x : ℕ) → x < 3 → P x
 below-three P a b c zero h = a
 below-three P a b c (suc zero) h = b
 below-three P a b c (suc (suc zero)) h = c
 below-three P a b c (suc (suc (suc x))) h = absurd (omega arith)
 
 -- what is in the middle is 1
-is-one : (P : ℕ → Type 0) → P 1 → (y : ℕ) → middle y ≡ true → P y
+pub is-one : (P : ℕ → Type 0) → P 1 → (y : ℕ) → middle y ≡ true → P y
 is-one P p y h = subst P (sym (eqb-true y 1 h)) p
 
 pub light : (x : ℕ) → x < 3 → price x ≤ top
