@@ -81,12 +81,14 @@ module _ (n : ℕ) (f g : Set → Bool) (w a b : ℕ → ℕ) (s : Set) (k : ℕ
       absurd (omega arith))
       (cases-lt (total w (later y q) (suc d)) (total w (later x p) (suc d)))
 
+  -- a shortcut by the first matroid loses weight
   loses-first : (d e p : ℕ) → k ≡ suc d + e → p ≤ e → (p ≡ 0 → f (with s (x (suc d))) ≡ true) →
       ((i : ℕ) → suc i ≡ p → f (with (without s (y i)) (x (suc d + p))) ≡ true) →
       total w (later y p) (suc d) < total w (later x p) (suc d)
   loses-first d e p whole h start step = loses d e p p whole (omega arith) h
       (shortcut-first n f g s (suc d) e p x y h (subst (λ m. Augmenting n f g s m x y) whole (best .path)) start step)
 
+  -- a shortcut by the second matroid loses weight
   loses-second : (d e p : ℕ) → k ≡ suc d + e → p ≤ e → (p < e → g (with (without s (y (suc d + p))) (x p)) ≡ true) →
       (p ≡ e → g (with s (x p)) ≡ true) → total w (later y p) (suc d) < total w (later x (suc p)) (suc d)
   loses-second d e p whole h step last = loses d e (suc p) p whole (omega arith) h
@@ -124,9 +126,11 @@ module _ (n : ℕ) (f g : Set → Bool) (w a b : ℕ → ℕ) (s : Set) (k : ℕ
   key-first : ℕ → ℕ
   key-first i = total w y (suc i) + (total w x (suc k) - total w x (suc i))
 
+  -- the keys by the second matroid: what the path has brought, with what has still to go
   key-second : ℕ → ℕ
   key-second i = total w x (suc i) + (total w y k - total w y i)
 
+  -- by the first matroid an exchange across pairs falls by these keys: forward it is a shortcut, backward it closes a cycle
   falling-first : Falling f s y (λ i. x (suc i)) k key-first (λ i. i)
   unfolding key-first
   falling-first i j hi hj apart arc = ⊎-elim (λ (z : i ≡ j). absurd (apart z))
@@ -156,6 +160,7 @@ module _ (n : ℕ) (f g : Set → Bool) (w a b : ℕ → ℕ) (s : Set) (k : ℕ
       same : (i m : ℕ) → suc m ≡ suc i → i ≡ m
       same i m z = omega arith
 
+  -- by the second matroid likewise
   falling-second : Falling g s y x k key-second (λ i. k - i)
   unfolding key-second
   falling-second i j hi hj apart arc = ⊎-elim (λ (z : i ≡ j). absurd (apart z))

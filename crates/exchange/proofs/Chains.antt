@@ -41,6 +41,7 @@ pub record Inner (n : ℕ) (f g : Set → Bool) (w a : ℕ → ℕ) (s reached :
 
 module _ (n : ℕ) (f g : Set → Bool) (w a : ℕ → ℕ) (s reached : Set) (d k back : ℕ → ℕ) (t : ℕ)
     (labels : Labels n f g w a s reached d k back) (end : End n g w a s reached d k t) where
+  -- the end itself
   outer-end : Outer n s reached k back t 0
   outer-end = record { below = end .below; fresh = end .fresh; found = end .found; steps = omega arith }
 
@@ -79,6 +80,7 @@ module _ (n : ℕ) (f g : Set → Bool) (w a : ℕ → ℕ) (s reached : Set) (d
       (λ (few : k (mark back t i) ≤ 1). (i, omega (arith, one-step i o few .0, o .steps)))
       (cases-lt 1 (k (mark back t i)))
 
+  -- so the path has an odd number of elements
   pub half : (m : ℕ) × (k t ≡ suc (twice m))
   half = ends (suc (k t)) 0 (omega arith) outer-end
 
@@ -87,6 +89,7 @@ module _ (n : ℕ) (f g : Set → Bool) (w a : ℕ → ℕ) (s reached : Set) (d
     pub inside : (i : ℕ) → Outer n s reached k back t i → i < m → Inner n f g w a s reached d k back t i
     inside i o h = inner i o (omega (arith, o .steps, twice-is i, twice-is m))
 
+    -- the elements outside of the set
     pub outer : (i : ℕ) → i ≤ m → Outer n s reached k back t i
     outer zero h = outer-end
     outer (suc i) h = inside i (outer i (omega arith)) (omega arith) .next

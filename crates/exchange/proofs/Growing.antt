@@ -12,7 +12,7 @@ use Rattle.exchange.specs.Paths.{Route, Augmenting, Leads-outside, Leads-insid
 use Rattle.exchange.proofs.DualSets.{sink-leads, inside-by, outside-by}
 
 -- all elements are a set as large as any
-size-all : (n : ℕ) → size n (λ v. true) ≡ n
+pub size-all : (n : ℕ) → size n (λ v. true) ≡ n
 size-all zero = refl
 size-all (suc n) = let r : size n (λ v. true) ≡ n = size-all n in omega arith
 
@@ -25,6 +25,7 @@ module _ (n : ℕ) (f g : Set → Bool) (s : Set) where
   abbrev ready : ℕ → Bool
   ready z = not (s z) && g (with s z)
 
+  -- an element leads to a sink, from outside or from inside
   abbrev Leads : ℕ → Type 0
   Leads z = (s z ≡ false → Leads-outside n f g s z) × (s z ≡ true → Leads-inside n f g s z)
 
@@ -36,6 +37,7 @@ module _ (n : ℕ) (f g : Set → Bool) (s : Set) where
   abbrev Full : Set → Type 0
   Full u = ((z : ℕ) → z < n → u z ≡ false → ready z ≡ false) × ((z v : ℕ) → z < n → v < n → u z ≡ false → u v ≡ true → step z v ≡ false)
 
+  -- a sink leads to itself
   ready-leads : (z : ℕ) → z < n → ready z ≡ true → Leads z
   ready-leads z h e = (λ out. sink-leads n f g s z h out (back (s z) (g (with s z)) e), λ held. absurd (clash (s z) (g (with s z)) held e))
     where
@@ -45,6 +47,7 @@ module _ (n : ℕ) (f g : Set → Bool) (s : Set) where
       clash : (p q : Bool) → p ≡ true → (not p && q) ≡ true → ⊥
       clash p q h e = grind arith
 
+  -- what has a step to an element that leads, leads
   step-leads : (z v : ℕ) → z < n → v < n → step z v ≡ true → Leads v → Leads z
   step-leads z v hz hv e way = (
     (λ out. let r = outer (s z) (s v) (f (with (without s z) v)) (g (with (without s v) z)) out e in
@@ -103,6 +106,7 @@ module _ (n : ℕ) (f g : Set → Bool) (s : Set) where
       not-step p q r h l e = grind arith
 
   module _ (u : Set) (full : Full u) where
+    -- what is not false is true
     holds : (b : Bool) → (b ≡ false → ⊥) → b ≡ true
     holds b h = grind arith
 
@@ -133,6 +137,7 @@ module _ (n : ℕ) (f g : Set → Bool) (s : Set) where
         second : (p q a b : Bool) → p ≡ false → q ≡ true → b ≡ true → pick p (not q && a) (q && b) ≡ false → ⊥
         second p q a b h l i e = grind arith
 
+    -- and so is every element of the set that leads
     all-in : (z : ℕ) → z < n → s z ≡ true → Leads-inside n f g s z → u z ≡ true
     all-in z h held way =
         let start : u (way .1 0) ≡ true = route-starts (way .0) (way .1) (way .2) (way .3) (way .0) 0 (omega arith) in

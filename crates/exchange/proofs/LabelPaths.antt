@@ -26,6 +26,7 @@ module _ (n : ℕ) (f g : Set → Bool) (w a : ℕ → ℕ) (loss : ℕ) (s reac
   Reached j u v = (reached (u j) ≡ true) × (total w u j + (d (u j) + a (u j)) ≤ total w v j) ×
       (total w u j + (d (u j) + a (u j)) ≡ total w v j → k (u j) ≤ suc (twice j))
 
+  -- by induction along the path
   walked : (l : ℕ) (u v : ℕ → ℕ) → Augmenting n f g s l u v → (j : ℕ) → j ≤ l → Reached j u v
   walked l u v path zero h =
       let p = labels .start (u 0) (path .route .x-below 0 h) (path .route .x-fresh 0 h) (path .source) in
@@ -54,9 +55,11 @@ module _ (n : ℕ) (f g : Set → Bool) (w a : ℕ → ℕ) (loss : ℕ) (s reac
       )
 
   module _ (m : ℕ) (whole : k t ≡ suc (twice m)) where
+    -- the elements of the path outside of the set
     at : (i : ℕ) → i ≤ m → Outer n s reached k back t i
     at i h = outer n f g w a s reached d k back t labels end m whole i h
 
+    -- the elements of the path in the set
     before : (i : ℕ) → i < m → Inner n f g w a s reached d k back t i
     before i h = inside n f g w a s reached d k back t labels end m whole i (at i (omega arith)) h
 
@@ -161,6 +164,7 @@ module _ (n : ℕ) (f g : Set → Bool) (w a : ℕ → ℕ) (loss : ℕ) (s reac
         let same : k (mark back t j) ≡ k (mark back t i) = ap k e in
         omega (arith, twice-is i, twice-is j)
 
+    -- .. and those in the set
     backs-differ : (i j : ℕ) → i < m → j < i → back (mark back t j) ≡ back (mark back t i) → ⊥
     backs-differ i j h l e =
         let p : k (mark back t i) + twice i ≡ k t = at i (omega arith) .steps in
@@ -174,13 +178,16 @@ module _ (n : ℕ) (f g : Set → Bool) (w a : ℕ → ℕ) (loss : ℕ) (s reac
     backs-held : (i v : ℕ) → i ≤ m → among (λ j. back (mark back t j)) i v ≡ true → s v ≡ true
     backs-held i v h found = among-all (λ j. back (mark back t j)) i v s true (λ j l. before j (omega arith) .held) found
 
+    -- what was found among the marks was not in the set
     marks-fresh : (i v : ℕ) → i ≤ suc m → among (mark back t) i v ≡ true → s v ≡ false
     marks-fresh i v h found = among-all (mark back t) i v s false (λ j l. at j (omega arith) .fresh) found
 
+    -- the next mark is not among the marks so far
     marks-new : (i v : ℕ) → i ≤ m → eqb v (mark back t i) ≡ true → (s v ≡ false) × (among (mark back t) i v ≡ false)
     marks-new i v h e = subst (λ u. (s u ≡ false) × (among (mark back t) i u ≡ false)) (sym (eqb-true v (mark back t i) e))
         (at i h .fresh, among-none (mark back t) i (mark back t i) (λ j l z. marks-differ i j h l z))
 
+    -- the next predecessor is not among those so far
     backs-new : (i v : ℕ) → i < m → eqb v (back (mark back t i)) ≡ true → (s v ≡ true) × (among (λ j. back (mark back t j)) i v ≡ false)
     backs-new i v h e = subst (λ u. (s u ≡ true) × (among (λ j. back (mark back t j)) i u ≡ false)) (sym (eqb-true v (back (mark back t i)) e))
         (before i h .held, among-none (λ j. back (mark back t j)) i (back (mark back t i)) (λ j l z. backs-differ i j h l z))
@@ -223,6 +230,7 @@ module _ (n : ℕ) (f g : Set → Bool) (w a : ℕ → ℕ) (loss : ℕ) (s reac
         over : (i : ℕ) → i < suc m → m - (m - i) ≡ i
         over i h = omega arith
 
+    -- likewise for those that go
     same-backs : (v : ℕ) → among (goes back t m) m v ≡ among (λ j. back (mark back t j)) m v
     same-backs v = among-same (goes back t m) (λ j. back (mark back t j)) m v
         (λ i h. among-at (λ j. back (mark back t j)) m (m - suc i) (omega arith))

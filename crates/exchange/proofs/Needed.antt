@@ -36,6 +36,7 @@ by-two P a b zero h = a
 by-two P a b (suc zero) h = b
 by-two P a b (suc (suc i)) h = absurd (omega arith)
 
+-- .. and below 1
 by-one : (P : ℕ → Type 0) → P 0 → (i : ℕ) → i < 1 → P i
 by-one P a zero h = a
 by-one P a (suc i) h = absurd (omega arith)

@@ -15,25 +15,31 @@ use Rattle.exchange.proofs.Cuts.{skip, cut, later, skip-once, skip-before, ski
 skip-within : (p d e i : ℕ) → i ≤ e → skip p d i ≤ d + e
 skip-within p d e i h = grind arith
 
+-- .. also where the last is left out
 skip-below : (p d e i : ℕ) → i < e → skip p d i < d + e
 skip-below p d e i h = grind arith
 
--- the place behind the one at which the cut ends, and every other
+-- but for the place before the cut, what comes next comes next
 skip-next : (p d i : ℕ) → (suc i ≡ p → ⊥) → skip p d (suc i) ≡ suc (skip p d i)
 skip-next p d i h = grind arith
 
+-- two cuts that start one place apart agree but there
 skip-both : (p d i : ℕ) → (i ≡ p → ⊥) → skip (suc p) d i ≡ skip p d i
 skip-both p d i h = grind arith
 
+-- the place behind the cut
 skip-joins : (p d i : ℕ) → suc i ≡ p → d + p ≡ skip p d (suc i)
 skip-joins p d i h = grind arith
 
+-- the first place of the cut is behind it
 skip-from : (p d i : ℕ) → i ≡ p → d + p ≡ skip p d i
 skip-from p d i h = grind arith
 
+-- a cut that starts one place later leaves it
 skip-to : (p d i : ℕ) → i ≡ p → p ≡ skip (suc p) d i
 skip-to p d i h = grind arith
 
+-- a cut that starts one place later, one place later
 skip-onward : (p d i : ℕ) → suc (skip p d i) ≡ skip (suc p) d (suc i)
 skip-onward p d i = grind arith
 

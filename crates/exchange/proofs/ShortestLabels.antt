@@ -23,6 +23,7 @@ module _ (n : ℕ) (f g : Set → Bool) (w a : ℕ → ℕ) (loss : ℕ) (s : Se
       plain : (p q a b : Bool) → p ≡ false → q ≡ true → b ≡ true → pick p (not q && a) (q && b) ≡ true
       plain p q a b h l i = grind arith
 
+  -- out of the set by the first matroid
   arc-into : (y x : ℕ) → s y ≡ true → s x ≡ false → f (with (without s y) x) ≡ true → arc f g s y x ≡ true
   unfolding arc
   arc-into y x hy hx h = plain (s y) (s x) (f (with (without s y) x)) (g (with (without s x) y)) hy hx h
@@ -30,6 +31,7 @@ module _ (n : ℕ) (f g : Set → Bool) (w a : ℕ → ℕ) (loss : ℕ) (s : Se
       plain : (p q a b : Bool) → p ≡ true → q ≡ false → a ≡ true → pick p (not q && a) (q && b) ≡ true
       plain p q a b h l i = grind arith
 
+  -- an arc into the set comes from outside, by the second matroid
   arc-from-out : (v y : ℕ) → s y ≡ true → arc f g s v y ≡ true → (s v ≡ false) × (g (with (without s y) v) ≡ true)
   unfolding arc
   arc-from-out v y hy h = plain (s v) (s y) (f (with (without s v) y)) (g (with (without s y) v)) hy h
@@ -37,6 +39,7 @@ module _ (n : ℕ) (f g : Set → Bool) (w a : ℕ → ℕ) (loss : ℕ) (s : Se
       plain : (p q a b : Bool) → q ≡ true → pick p (not q && a) (q && b) ≡ true → (p ≡ false) × (b ≡ true)
       plain p q a b h l = (grind arith, grind arith)
 
+  -- an arc out of the set comes from inside, by the first matroid
   arc-from-into : (v x : ℕ) → s x ≡ false → arc f g s v x ≡ true → (s v ≡ true) × (f (with (without s v) x) ≡ true)
   unfolding arc
   arc-from-into v x hx h = plain (s v) (s x) (f (with (without s v) x)) (g (with (without s x) v)) hx h
@@ -44,6 +47,7 @@ module _ (n : ℕ) (f g : Set → Bool) (w a : ℕ → ℕ) (loss : ℕ) (s : Se
       plain : (p q a b : Bool) → q ≡ false → pick p (not q && a) (q && b) ≡ true → (p ≡ true) × (a ≡ true)
       plain p q a b h l = (grind arith, grind arith)
 
+  -- a source can be added by the first matroid
   addable-from : (x : ℕ) → s x ≡ false → f (with s x) ≡ true → addable f s x ≡ true
   unfolding addable
   addable-from x h l = plain (s x) (f (with s x)) h l
@@ -51,6 +55,7 @@ module _ (n : ℕ) (f g : Set → Bool) (w a : ℕ → ℕ) (loss : ℕ) (s : Se
       plain : (p q : Bool) → p ≡ false → q ≡ true → (not p && q) ≡ true
       plain p q h l = grind arith
 
+  -- .. and only a source can
   addable-tells : (x : ℕ) → addable f s x ≡ true → (s x ≡ false) × (f (with s x) ≡ true)
   unfolding addable
   addable-tells x h = plain (s x) (f (with s x)) h
@@ -63,6 +68,7 @@ module _ (n : ℕ) (f g : Set → Bool) (w a : ℕ → ℕ) (loss : ℕ) (s : Se
   unfolding cost
   cost-out x y h = ap (λ (p : Bool). pick p (a x - a y) ((w y + a x) - (w x + a y))) h
 
+  -- .. and out of the set
   cost-into : (y x : ℕ) → s y ≡ true → cost s w a y x ≡ a y - a x
   unfolding cost
   cost-into y x h = ap (λ (p : Bool). pick p (a y - a x) ((w x + a y) - (w y + a x))) h

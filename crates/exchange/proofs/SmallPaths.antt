@@ -30,9 +30,11 @@ below-three P a b c (suc (suc (suc x))) h = absurd (omega arith)
 pub is-one : (P : ℕ → Type 0) → P 1 → (y : ℕ) → middle y ≡ true → P y
 is-one P p y h = subst P (sym (eqb-true y 1 h)) p
 
+-- the weights are small
 pub light : (x : ℕ) → x < 3 → price x ≤ top
 light x h = below-three (λ v. price v ≤ top) (omega arith) (omega arith) (omega arith) x h
 
+-- a state of the set of 1
 small-state : State 3 left right price (λ x. 0) 999995 middle
 small-state = record {
   first = refl;
@@ -45,6 +47,7 @@ small-state = record {
   small = λ x h. omega arith;
 }
 
+-- its labels
 small-labels : Labels 3 left right price (λ x. 0) middle (λ x. true) costs steps earlier
 small-labels = record {
   start = λ x h. below-three (λ v. middle v ≡ false → left (with middle v) ≡ true → (true ≡ true) × (costs v ≡ 0) × (steps v ≡ 1))
@@ -66,6 +69,7 @@ small-labels = record {
       (λ o r m. absurd (omega arith)) (λ o. absurd (both-ways true o refl)) (λ o r m. (refl, refl)) x h;
 }
 
+-- the end that they choose
 small-end : End 3 right price (λ x. 0) middle (λ x. true) costs steps 0
 small-end = record {
   below = omega arith;
@@ -83,11 +87,13 @@ small-chain zero p = absurd (omega (arith, p .steps))
 small-chain (suc zero) p = refl
 small-chain (suc (suc m)) p = absurd (omega (arith, p .steps))
 
+-- the path that they give
 small-predecessors : Predecessors 3 left right price (λ x. 0) middle costs steps earlier 0 1
 small-predecessors =
     let r = labels-best 3 left right price (λ x. 0) 999995 middle (λ x. true) costs steps earlier 0 light small-state small-labels small-end in
     subst (λ m. Predecessors 3 left right price (λ x. 0) middle costs steps earlier 0 m) (small-chain (r .0) (r .1)) (r .1)
 
+-- all of it
 pub small-labelled : Small-labelled
 small-labelled = (small-state, small-labels, small-end, small-predecessors)
 
@@ -95,16 +101,20 @@ small-labelled = (small-state, small-labels, small-end, small-predecessors)
 gone : (i : ℕ) → 1 - suc i ≡ 0
 gone i = omega arith
 
+-- what comes
 small-coming : (i : ℕ) → comes earlier 0 1 i ≡ coming i
 small-coming zero = refl
 small-coming (suc i) = ap (λ j. behind earlier 0 (twice j)) (gone i)
 
+-- what goes
 small-going : (i : ℕ) → goes earlier 0 1 i ≡ going i
 small-going i = ap (λ j. earlier (behind earlier 0 (twice j))) (gone i)
 
+-- the path is a best one
 small-best : Best-path 3 left right price middle 1 coming going
 small-best = subst₂ (λ x y. Best-path 3 left right price middle 1 x y) (fun-ext small-coming) (fun-ext small-going) (small-predecessors .best)
 
+-- and leads to a set that both allow
 pub small-path : Small-path
 small-path = (
   small-best,
@@ -121,10 +131,12 @@ small-no-path k x y path = never (x 0) (path .route .x-below 0 (omega arith)) (p
     never v h = below-three (λ v. outer v ≡ false → left (with outer v) ≡ true → ⊥)
         (λ o. absurd (both-ways true o refl)) (λ o s. both-ways false refl s) (λ o. absurd (both-ways true o refl)) v h
 
+-- nothing can be added by the second
 small-no-sink : (v : ℕ) → v < 3 → outer v ≡ false → right (with outer v) ≡ true → ⊥
 small-no-sink v h = below-three (λ v. outer v ≡ false → right (with outer v) ≡ true → ⊥)
     (λ o. absurd (both-ways true o refl)) (λ o s. both-ways false refl s) (λ o. absurd (both-ways true o refl)) v h
 
+-- so nothing leads to a sink
 small-leading : Leading 3 left right outer none
 small-leading = record {
   outside-leads = λ z h out e. absurd (both-ways false refl e);
@@ -136,6 +148,7 @@ small-leading = record {
     stuck : (k : ℕ) (x y : ℕ → ℕ) → Route 3 left right outer k x y → ⊥
     stuck k x y route = small-no-sink (x k) (route .x-below k (omega arith)) (route .x-fresh k (omega arith)) (route .sink)
 
+-- and the empty set is a dual set
 pub small-dual : Small-dual
 small-dual =
     let closed = leading-closed 3 left right outer none small-no-path small-leading in

@@ -37,6 +37,7 @@ module _ (n : ℕ) (f g : Set → Bool) (w a : ℕ → ℕ) (loss : ℕ) (s reac
   abbrev ending : ℕ → Bool
   ending x = not (s x) && (reached x && g (with s x))
 
+  -- what that says
   ending-parts : (x : ℕ) → ending x ≡ true → (s x ≡ false) × (reached x ≡ true) × (g (with s x) ≡ true)
   ending-parts x h = plain (s x) (reached x) (g (with s x)) h
     where
@@ -124,6 +125,7 @@ grown (suc fuel) n f g a loss s first second h state = ⊎-elim
     (λ u. (s, u .0, u .1))
     (next-or-dual n f g (λ x. 0) a loss s first second (λ x l. omega arith) state)
 
+-- from the empty set on
 pub dual-exists : Dual-exists
 dual-exists n f g first second =
     grown (suc n) n f g (λ x. 0) 0 none first second (omega arith) (empty-state n f g (λ x. 0) first second (λ x l. omega arith))

@@ -10,6 +10,7 @@ use Rattle.sets.specs.Matroid.{pick, Set, size, without, with, none, Within}
 use Rattle.sets.proofs.FiniteSets.{least, look-up, size-with, part-as-large}
 use Rattle.exchange.specs.Round.{Before}
 use Rattle.exchange.specs.Graph.{arc, addable, cost, Shortest, bettered, Changed, Least}
+use Rattle.exchange.proofs.Growing.{size-all}
 use Rattle.exchange.proofs.Settling.{Going, complete, turn}
 use Rattle.exchange.proofs.ShortestLabels.{labels-of-shortest}
 use Rattle.weighted.specs.Steps.{Labels-exist}
@@ -40,12 +41,8 @@ least-label n p d k x h e =
         (λ (e : dv ≡ dr → ⊥). grind arith)
         (cases-eq dv dr)
 
--- all elements are as many as there are
-size-all : (n : ℕ) → size n (λ v. true) ≡ n
-size-all zero = refl
-size-all (suc n) = let r : size n (λ v. true) ≡ n = size-all n in omega arith
-
 module _ (n : ℕ) (to : ℕ → ℕ → Bool) (c : ℕ → ℕ → ℕ) (source : Set) where
+  -- shortest labels
   abbrev Found : Type 0
   Found = (reached : Set) × (d : ℕ → ℕ) × (k : ℕ → ℕ) × (back : ℕ → ℕ) × Shortest n to c source reached d k back
 
@@ -109,6 +106,7 @@ module _ (n : ℕ) (to : ℕ → ℕ → Bool) (c : ℕ → ℕ → ℕ) (source
       all : (p q : Bool) → (p && not q) ≡ false → p ≡ true → q ≡ true
       all p q h l = grind arith
 
+  -- any graph has shortest labels
   shortest : Found
   shortest = turns n none source (λ v. 0) (λ v. 1) (λ v. 0) (omega arith) begin
 

@@ -42,15 +42,19 @@ state-split n f g w a loss s state = record {
 module _ (n : ℕ) (f g : Set → Bool) (w a : ℕ → ℕ) (loss : ℕ) (s : Set) (k : ℕ) (x y : ℕ → ℕ)
     (first : Matroid n f) (second : Matroid n g) (state : State n f g w a loss s) (path : Augmenting n f g s k x y)
     (aug : Augmented n f g w s k x y) (adds : total w x (suc k) + loss ≡ total w y k + top) where
+  -- the second part, the new set, and the splitting of the old one
   abbrev b : ℕ → ℕ
   b = rest w a loss
 
+  -- the new set
   abbrev new : Set
   new = along s x y k
 
+  -- the splitting of the old set
   split : Split n f g w a b s
   split = state-split n f g w a loss s state
 
+  -- both parts add up
   parts : (z : ℕ) → z < n → a z + b z ≡ w z + loss
   parts z h = rest-parts (w z) (a z) loss (state .small z h)
 
@@ -74,6 +78,7 @@ module _ (n : ℕ) (f g : Set → Bool) (w a : ℕ → ℕ) (loss : ℕ) (s : Se
   start-best = best-of-one-more n f a s (x 0) first (state .first-best)
       (λ z h out source. let e : a z ≡ 0 = state .sources z h out source in omega arith)
 
+  -- its source has no first part
   start-zero : a (x 0) ≡ 0
   start-zero = state .sources (x 0) (path .route .x-below 0 (omega arith)) (path .route .x-fresh 0 (omega arith)) (path .source)
 
@@ -81,6 +86,7 @@ module _ (n : ℕ) (f g : Set → Bool) (w a : ℕ → ℕ) (loss : ℕ) (s : Se
   old-sum : weight n a s + weight n b s ≡ weight n w s + loss * size n s
   old-sum = split-sum n w a b loss s parts
 
+  -- .. of the new one, which has one element more
   new-sum : weight n a new + weight n b new ≡ weight n w new + (loss * size n s + loss)
   new-sum =
       let sum : weight n a new + weight n b new ≡ weight n w new + loss * size n new = split-sum n w a b loss new parts in
@@ -93,9 +99,11 @@ module _ (n : ℕ) (f g : Set → Bool) (w a : ℕ → ℕ) (loss : ℕ) (s : Se
 
   module _ (z : ℕ) (hz : z < n) (out : s z ≡ false) (sink : g (with s z) ≡ true)
       (most : (v : ℕ) → v < n → s v ≡ false → g (with s v) ≡ true → b v ≤ b z) where
+    -- the set with a heaviest sink is a best one by the second part
     end-best : Best n g b (with s z)
     end-best = best-of-one-more n g b s z second (split .best-second) most
 
+    -- the parts leave no room: the new set weighs by each part as much as a best one
     moved : Moved
     moved =
         let start-size : size n (with s (x 0)) ≡ suc (size n s) = size-with n s (x 0) (path .route .x-below 0 (omega arith)) (path .route .x-fresh 0 (omega arith)) in
@@ -123,6 +131,7 @@ module _ (n : ℕ) (f g : Set → Bool) (w a : ℕ → ℕ) (loss : ℕ) (s : Se
             a0 ≡ 0 → b0 ≤ top → an ≤ ax → bn ≤ bz → wn + ty ≡ wo + tx → tx + loss ≡ ty + top → (an ≡ ax) × (bn ≡ bz)
         tight ao bo wo c an bn wn loss ax bz a0 b0 top tx ty h1 h2 h3 h4 h5 h6 h7 h8 h9 h10 = (omega arith, omega arith)
 
+  -- with the heaviest sink that there is
   found : Moved
   found = moved (heaviest-sink .0) (heaviest-sink .1) (front (s (heaviest-sink .0)) (g (with s (heaviest-sink .0))) (heaviest-sink .2))
       (behind (s (heaviest-sink .0)) (g (with s (heaviest-sink .0))) (heaviest-sink .2))
@@ -148,6 +157,7 @@ module _ (n : ℕ) (f g : Set → Bool) (w a : ℕ → ℕ) (loss : ℕ) (s : Se
       right : (p q : Bool) → q ≡ true → (p || q) ≡ true
       right p q h = grind arith
 
+  -- the last x is in the new set
   end-in : new (x k) ≡ true
   end-in = right (s (x k) && not (among y k (x k))) (among x (suc k) (x k)) (among-at x (suc k) k (omega arith))
     where

@@ -15,9 +15,11 @@ use Rattle.weighted.specs.Next.{raised}
 raised-reached : (reached : Set) (a d : ℕ → ℕ) (m v : ℕ) → reached v ≡ true → raised reached a d m v ≡ a v + min (d v) m
 raised-reached reached a d m v h = cc
 
+-- .. and one that is not reached
 raised-unreached : (reached : Set) (a d : ℕ → ℕ) (m v : ℕ) → reached v ≡ false → raised reached a d m v ≡ a v + m
 raised-unreached reached a d m v h = cc
 
+-- no potential rises by more than the loss
 raised-most : (reached : Set) (a d : ℕ → ℕ) (m v : ℕ) → raised reached a d m v ≤ a v + m
 raised-most reached a d m v = most (reached v) (a v) (d v) m
   where
@@ -35,9 +37,11 @@ module _ (n : ℕ) (f g : Set → Bool) (w a : ℕ → ℕ) (loss : ℕ) (s reac
       let l : w t ≤ top = light t (end .below) in
       omega arith
 
+  -- by how much the loss rises
   abbrev m : ℕ
   m = lost w a d t - loss
 
+  -- exchanges by the first matroid
   raised-first : (y x : ℕ) → y < n → x < n → s y ≡ true → s x ≡ false → f (with (without s y) x) ≡ true → raised reached a d m x ≤ raised reached a d m y
   raised-first y x hy hx held out arc =
       let old : a x ≤ a y = state .first-best y x hy hx held out arc in
@@ -54,6 +58,7 @@ module _ (n : ℕ) (f g : Set → Bool) (w a : ℕ → ℕ) (loss : ℕ) (s reac
       omega arith)
       (cases-bool (reached y))
 
+  -- exchanges by the second
   raised-second : (y x : ℕ) → y < n → x < n → s y ≡ true → s x ≡ false → g (with (without s y) x) ≡ true →
       w x + raised reached a d m y ≤ w y + raised reached a d m x
   raised-second y x hy hx held out arc =
@@ -71,6 +76,7 @@ module _ (n : ℕ) (f g : Set → Bool) (w a : ℕ → ℕ) (loss : ℕ) (s reac
       omega arith)
       (cases-bool (reached x))
 
+  -- sources keep 0
   raised-sources : (x : ℕ) → x < n → s x ≡ false → f (with s x) ≡ true → raised reached a d m x ≡ 0
   raised-sources x h out source =
       let p = labels .start x h out source in
@@ -79,6 +85,7 @@ module _ (n : ℕ) (f g : Set → Bool) (w a : ℕ → ℕ) (loss : ℕ) (s reac
       let ex : raised reached a d m x ≡ a x + min (d x) m = raised-reached reached a d m x (p .0) in
       omega arith
 
+  -- sinks stay within the new loss
   raised-sinks : (x : ℕ) → x < n → s x ≡ false → g (with s x) ≡ true → w x + lost w a d t ≤ top + raised reached a d m x
   raised-sinks x h out sink =
       let old : w x + loss ≤ top + a x = state .sinks x h out sink in

@@ -75,6 +75,7 @@ weight-light n w s light =
 module _ (n : ℕ) (f g : Set → Bool) (w a : ℕ → ℕ) (loss : ℕ) (s reached : Set) (d k back : ℕ → ℕ) (t : ℕ)
     (first : Matroid n f) (second : Matroid n g) (light : (x : ℕ) → x < n → w x ≤ top) (state : State n f g w a loss s)
     (labels : Labels n f g w a s reached d k back) (end : End n g w a s reached d k t) where
+  -- the potentials of the next state
   abbrev potentials : ℕ → ℕ
   potentials = raised reached a d (lost w a d t - loss)
 
@@ -107,6 +108,7 @@ module _ (n : ℕ) (f g : Set → Bool) (w a : ℕ → ℕ) (loss : ℕ) (s reac
     same-set : along s (comes back t m) (goes back t m) m ≡ toggled s back t (k t)
     same-set = fun-ext (λ v. sym (chain .changed v))
 
+    -- so the next state is that of the changed set
     next : Next n f g w a loss s reached d k back t
     next =
         let aug = leads m (comes back t m) (goes back t m) (chain .best) in

@@ -2,12 +2,15 @@
 use mathlib.Core.Path.{_≡_, refl}
 use mathlib.Core.Bool.{Bool, true, false}
 use Prim.Native.Nat.{ℕ, _≤_, _<_}
-use Rattle.sets.specs.Matroid.{Set}
-use Rattle.matroid.specs.Examples.{left, right, price, middle}
+use native.Mathlib.Omega.{arith}
+use Rattle.sets.specs.Matroid.{Set, none}
+use Rattle.matroid.specs.Examples.{left, right, price, middle, outer}
 use Rattle.matroid.proofs.SmallMatroids.{small-matroids}
 use Rattle.exchange.specs.Examples.{costs, steps, earlier, coming, going}
 use Rattle.exchange.proofs.SmallPaths.{light, small-labelled, small-path}
-use Rattle.weighted.specs.Examples.{Small-round, Small-state}
+use Rattle.weighted.specs.Examples.{Small-round, Small-state, Small-existence}
+use Rattle.weighted.proofs.Existence.{states-exist, dual-exists, heaviest-gains-never-rise}
+use Rattle.weighted.proofs.LabelsExist.{labels-exist}
 use Rattle.weighted.proofs.Rounds.{round, best-next, state-splits, state-heaviest}
 
 -- the round after 1 is chosen, and the same by its path
@@ -24,4 +27,14 @@ pub small-state : Small-state
 small-state = (
   state-splits 3 left right price (λ x. 0) 999995 middle (small-matroids .0) (small-matroids .1) (small-labelled .0),
   (λ t lt rt same. state-heaviest 3 left right price (λ x. 0) 999995 middle t (small-matroids .0) (small-matroids .1) (small-labelled .0) lt rt same),
+)
+
+-- what exists at the two small matroids, and their gains
+pub small-existence : Small-existence
+small-existence = (
+  labels-exist 3 left right price (λ x. 0) 999995 middle (small-labelled .0),
+  states-exist 3 left right price outer (small-matroids .0) (small-matroids .1) light refl refl 2 (omega arith),
+  dual-exists 3 left right (small-matroids .0) (small-matroids .1),
+  heaviest-gains-never-rise 3 left right price none middle outer (small-matroids .0) (small-matroids .1) light refl refl refl refl refl refl refl refl
+      (small-state .1),
 )

@@ -2,12 +2,12 @@
 -- Assumes nothing: facts whose proofs are owed by the functions that name them.
 use mathlib.Core.Path.{_≡_}
 use mathlib.Core.Bool.{Bool, true}
-use Prim.Native.Nat.{ℕ, _≤_}
+use Prim.Native.Nat.{ℕ, _+_, _≤_}
 use lib.IntN.{pos, _-ℤ_}
 use Rattle.sets.specs.Matroid.{Set, size, weight}
-use Rattle.matroid.specs.Optimal.{Signed-split}
-use Rattle.matroid.specs.Examples.{left, right, price, middle}
-use Rattle.exchange.specs.Round.{State}
+use Rattle.matroid.specs.Optimal.{Dual, Signed-split}
+use Rattle.matroid.specs.Examples.{left, right, price, middle, outer}
+use Rattle.exchange.specs.Round.{State, Labels}
 use Rattle.exchange.specs.Paths.{along}
 use Rattle.exchange.specs.Examples.{costs, steps, earlier, coming, going}
 use Rattle.weighted.specs.Next.{raised, Next}
@@ -23,3 +23,12 @@ abbrev pub Small-state : Type 0
 Small-state =
     Signed-split 3 left right price (λ x. pos 0) (λ x. pos (price x) -ℤ pos 0) middle ×
     ((t : Set) → left t ≡ true → right t ≡ true → size 3 t ≡ 1 → weight 3 price t ≤ 5)
+
+-- there are labels for the state of 1, there is a state of two elements, some choice has a dual set,
+-- and two elements gain no more over 1 than 1 over nothing
+abbrev pub Small-existence : Type 0
+Small-existence =
+    ((reached : Set) × (d : ℕ → ℕ) × (k : ℕ → ℕ) × (back : ℕ → ℕ) × Labels 3 left right price (λ x. 0) middle reached d k back) ×
+    ((a : ℕ → ℕ) × (loss : ℕ) × (s : Set) × State 3 left right price a loss s × (size 3 s ≡ 2)) ×
+    ((s : Set) × (u : Set) × Dual 3 left right s u) ×
+    (weight 3 price outer + 0 ≤ 5 + 5)
