@@ -1,15 +1,15 @@
 -- The set that a path leads to: as many exchanges at once, for either matroid, and what it weighs.
 use mathlib.Core.Path.{_≡_, refl, ap, sym, subst}
 use mathlib.Core.Bool.{Bool, true, false, _&&_, _||_, not}
-use Prim.Native.Nat.{ℕ, zero, suc, _+_, _-_, _≤_, _<_}
+use Prim.Native.Nat.{ℕ, zero, suc, _+_, _≤_, _<_}
 use native.Mathlib.Omega.{arith}
-use mathlib.Core.Logic.{_⊎_, inl, inr, ⊎-elim}
+use mathlib.Core.Logic.{⊎-elim}
 use Rattle.std.proofs.shelf.Tests.{cases-lt, cases-eq}
-use lib.Dec.{eqb, ltb}
-use Rattle.sets.specs.Matroid.{pick, Set, weight, without, with}
+use lib.Dec.{eqb}
+use Rattle.sets.specs.Matroid.{Set, weight, without, with}
 use Rattle.sets.proofs.Weights.{weight-same, weight-with, weight-without}
 use Rattle.matroid.specs.Exchanges.{among, exchanged}
-use Rattle.exchange.specs.Paths.{total, Route, Augmenting, Distinct, along}
+use Rattle.exchange.specs.Paths.{total, Route, Distinct, along}
 
 -- a value that none of the first m has is not among them
 pub among-none : (z : ℕ → ℕ) (m v : ℕ) → ((i : ℕ) → i < m → z i ≡ v → ⊥) → among z m v ≡ false

@@ -1,17 +1,16 @@
 -- Best paths lead to allowed sets, where the set has a weight splitting.
-use mathlib.Core.Path.{_≡_, refl, ap, sym, subst, subst₂, _∙_}
-use mathlib.Core.Bool.{Bool, true, false, _&&_, _||_, not}
+use mathlib.Core.Path.{_≡_, ap, sym, subst, subst₂, _∙_}
+use mathlib.Core.Bool.{Bool, true, false}
 use mathlib.Core.Logic.{_⊎_, inl, inr, ⊎-elim}
-use Prim.Native.Nat.{ℕ, zero, suc, _+_, _-_, _≤_, _<_}
+use Prim.Native.Nat.{ℕ, suc, _+_, _-_, _≤_, _<_}
 use native.Mathlib.Omega.{arith}
-use lib.Dec.{eqb, ltb}
-use Rattle.std.proofs.shelf.Tests.{cases-lt, cases-eq, cases-bool, cases-order}
-use Rattle.sets.specs.Matroid.{pick, Set, size, weight, without, with, Matroid}
+use Rattle.std.proofs.shelf.Tests.{cases-lt, cases-bool, cases-order}
+use Rattle.sets.specs.Matroid.{Set, size, without, with, Matroid}
 use Rattle.sets.proofs.MatroidLaws.{allowed-within, allowed-same}
 use Rattle.sets.proofs.FiniteSets.{size-same}
 use Rattle.matroid.specs.Optimal.{Split}
-use Rattle.matroid.specs.Exchanges.{among, exchanged, Pairs, Falling, Many-exchanges-by-keys-and-one}
-use Rattle.exchange.specs.Paths.{total, Route, Augmenting, Distinct, No-more, As-much, Best-path, along, Augmented, Best-augments, Best-of-all}
+use Rattle.matroid.specs.Exchanges.{exchanged, Falling, Many-exchanges-by-keys-and-one}
+use Rattle.exchange.specs.Paths.{total, Augmenting, Distinct, No-more, As-much, Best-path, along, Augmented, Best-augments, Best-of-all}
 use Rattle.exchange.proofs.Cuts.{cut, later, total-parts}
 use Rattle.exchange.proofs.Cycles.{cycle-first, cycle-second}
 use Rattle.exchange.proofs.Shortcuts.{shortcut-first, shortcut-second, shortcut-distinct}

@@ -1,15 +1,13 @@
 -- The chain of predecessors of a labelled end: it ends in a source, and its elements are those of a path.
-use mathlib.Core.Path.{_≡_, refl, ap, sym, subst, _∙_}
-use mathlib.Core.Bool.{Bool, true, false, _&&_, _||_, not}
-use mathlib.Core.Logic.{_⊎_, inl, inr, ⊎-elim}
-use Prim.Native.Nat.{ℕ, zero, suc, _+_, _-_, _≤_, _<_}
+use mathlib.Core.Path.{_≡_, refl}
+use mathlib.Core.Bool.{Bool, true, false}
+use mathlib.Core.Logic.{⊎-elim}
+use Prim.Native.Nat.{ℕ, zero, suc, _+_, _≤_, _<_}
 use native.Mathlib.Omega.{arith}
-use lib.Dec.{eqb, ltb}
-use Rattle.std.proofs.shelf.Tests.{cases-lt, cases-eq, cases-bool}
-use Rattle.sets.specs.Matroid.{pick, Set, without, with}
-use Rattle.exchange.specs.Round.{top, State, Before, Labels, End, lost, behind, flipped, toggled}
-use Rattle.exchange.specs.Paths.{total, Route, Augmenting}
-use Rattle.exchange.specs.Predecessors.{twice, comes, goes}
+use Rattle.std.proofs.shelf.Tests.{cases-lt}
+use Rattle.sets.specs.Matroid.{Set, without, with}
+use Rattle.exchange.specs.Round.{Labels, End, behind}
+use Rattle.exchange.specs.Predecessors.{twice}
 
 -- what `twice` says
 pub twice-is : (i : ℕ) → twice i ≡ i + i

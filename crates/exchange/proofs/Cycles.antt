@@ -1,12 +1,12 @@
 -- Cycles of exchanges: by a weight splitting, what comes around a cycle weighs no more than what goes.
-use mathlib.Core.Path.{_≡_, refl, ap, sym, subst}
-use mathlib.Core.Bool.{Bool, true, false}
-use Prim.Native.Nat.{ℕ, zero, suc, _+_, _-_, _≤_, _<_}
-use native.Mathlib.Nat.{add-suc, add-zero, add-comm}
+use mathlib.Core.Path.{_≡_, refl, subst}
+use mathlib.Core.Bool.{Bool, true}
+use Prim.Native.Nat.{ℕ, zero, suc, _+_, _≤_, _<_}
+use native.Mathlib.Nat.{add-suc, add-zero}
 use native.Mathlib.Omega.{arith}
-use Rattle.sets.specs.Matroid.{pick, Set, without, with}
-use Rattle.matroid.specs.Optimal.{Best, Split}
-use Rattle.exchange.specs.Paths.{total, Route, Augmenting, Distinct}
+use Rattle.sets.specs.Matroid.{Set, without, with}
+use Rattle.matroid.specs.Optimal.{Split}
+use Rattle.exchange.specs.Paths.{total, Route}
 use Rattle.exchange.proofs.Cuts.{later}
 
 -- what weighs less one by one weighs less together

@@ -1,18 +1,16 @@
 -- Dual sets: sets closed backwards from the sinks, and the elements that lead to a sink.
-use mathlib.Core.Path.{_≡_, refl, ap, sym, subst, _∙_}
-use mathlib.Core.Bool.{Bool, true, false, _&&_, _||_, not}
+use mathlib.Core.Path.{_≡_, refl, sym, subst}
+use mathlib.Core.Bool.{Bool, true, false, _&&_, not}
 use mathlib.Core.Logic.{_⊎_, inl, inr, ⊎-elim}
-use Prim.Native.Nat.{ℕ, zero, suc, _+_, _-_, _≤_, _<_}
+use Prim.Native.Nat.{ℕ, zero, suc, _≤_, _<_}
 use native.Mathlib.Omega.{arith}
-use lib.Dec.{eqb, ltb}
-use Rattle.std.proofs.shelf.Tests.{cases-lt, cases-eq, cases-bool, both-ways}
-use Rattle.sets.specs.Matroid.{pick, Set, size, both, outside, without, with, none, Within, Matroid}
-use Rattle.sets.proofs.FiniteSets.{size-with, size-bound, size-within, part-as-large, look-up}
+use Rattle.std.proofs.shelf.Tests.{cases-lt, both-ways}
+use Rattle.sets.specs.Matroid.{Set, size, both, outside, without, with, Within, Matroid}
+use Rattle.sets.proofs.FiniteSets.{part-as-large}
 use Rattle.sets.proofs.MatroidLaws.{allowed-within}
-use Rattle.matroid.specs.Optimal.{Dual}
 use Rattle.matroid.proofs.OneMatroid.{exchange}
 use Rattle.exchange.specs.Round.{Closed}
-use Rattle.exchange.specs.Paths.{Route, Augmenting, Dual-by-closed, Leads-outside, Leads-inside, Leading, Leading-exists, Dual-by-no-path}
+use Rattle.exchange.specs.Paths.{Augmenting, Dual-by-closed, Leads-outside, Leads-inside, Leading, Dual-by-no-path}
 
 -- what can be added to a part of a set can be added to the set, or come for an element outside of the part
 part-exchange : (n : ℕ) (f : Set → Bool) (s part : Set) (x : ℕ) → Matroid n f → f s ≡ true → Within n part s → s x ≡ false →

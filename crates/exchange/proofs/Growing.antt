@@ -1,14 +1,13 @@
 -- The elements that lead to a sink, grown one element at a time.
-use mathlib.Core.Path.{_≡_, refl, ap, sym, subst, _∙_}
-use mathlib.Core.Bool.{Bool, true, false, _&&_, _||_, not}
-use mathlib.Core.Logic.{_⊎_, inl, inr, ⊎-elim}
-use Prim.Native.Nat.{ℕ, zero, suc, _+_, _-_, _≤_, _<_}
+use mathlib.Core.Path.{_≡_, refl, sym, subst}
+use mathlib.Core.Bool.{Bool, true, false, _&&_, not}
+use mathlib.Core.Logic.{⊎-elim}
+use Prim.Native.Nat.{ℕ, zero, suc, _+_, _≤_, _<_}
 use native.Mathlib.Omega.{arith}
-use lib.Dec.{eqb, ltb}
-use Rattle.std.proofs.shelf.Tests.{cases-lt, cases-eq, cases-bool, both-ways}
+use Rattle.std.proofs.shelf.Tests.{cases-eq, both-ways}
 use Rattle.sets.specs.Matroid.{pick, Set, size, without, with, none, Within}
-use Rattle.sets.proofs.FiniteSets.{size-with, part-as-large, size-none, look-up, look-up-pair, size-bound}
-use Rattle.exchange.specs.Paths.{Route, Augmenting, Leads-outside, Leads-inside, Leading, Leading-exists}
+use Rattle.sets.proofs.FiniteSets.{size-with, part-as-large, look-up, look-up-pair}
+use Rattle.exchange.specs.Paths.{Route, Leads-outside, Leads-inside, Leading-exists}
 use Rattle.exchange.proofs.DualSets.{sink-leads, inside-by, outside-by}
 
 -- all elements are a set as large as any

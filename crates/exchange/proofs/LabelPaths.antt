@@ -1,15 +1,14 @@
 -- The predecessors of a labelled end are a best path.
-use mathlib.Core.Path.{_≡_, refl, ap, sym, subst, subst₂, _∙_}
+use mathlib.Core.Path.{_≡_, ap, sym, subst}
 use mathlib.Core.Bool.{Bool, true, false, _&&_, _||_, not}
-use mathlib.Core.Logic.{_⊎_, inl, inr, ⊎-elim}
 use Prim.Native.Nat.{ℕ, zero, suc, _+_, _-_, _≤_, _<_}
 use native.Mathlib.Omega.{arith}
-use lib.Dec.{eqb, ltb}
-use Rattle.std.proofs.shelf.Tests.{cases-lt, cases-eq, cases-bool, eqb-true}
+use lib.Dec.{eqb}
+use Rattle.std.proofs.shelf.Tests.{eqb-true}
 use Rattle.sets.specs.Matroid.{pick, Set, without, with}
 use Rattle.matroid.specs.Exchanges.{among}
-use Rattle.exchange.specs.Round.{top, State, Before, Labels, End, lost, behind, flipped, toggled}
-use Rattle.exchange.specs.Paths.{total, Route, Augmenting, Distinct, No-more, As-much, Best-path, along}
+use Rattle.exchange.specs.Round.{top, State, Before, Labels, End, lost, toggled}
+use Rattle.exchange.specs.Paths.{total, Augmenting, No-more, As-much, Best-path, along}
 use Rattle.exchange.specs.Predecessors.{twice, comes, goes, Predecessors, Labels-best}
 use Rattle.exchange.proofs.Along.{among-none, among-at, among-all, among-same}
 use Rattle.exchange.proofs.Chains.{twice-is, mark, Outer, Inner, half, inside, outer, first-source}

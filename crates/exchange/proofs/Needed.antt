@@ -1,20 +1,18 @@
 -- Both hypotheses on best paths are needed: examples on three elements.
-use mathlib.Core.Path.{_≡_, refl, sym, ap, _∙_, subst}
-use mathlib.Core.Logic.{_⊎_, inl, inr, ⊎-elim}
-use mathlib.Core.Bool.{Bool, true, false, _&&_, _||_, not}
-use Prim.Native.Nat.{ℕ, zero, suc, _+_, _-_, _≤_, _<_}
+use mathlib.Core.Path.{_≡_, refl, sym, ap, _∙_}
+use mathlib.Core.Logic.{⊎-elim}
+use mathlib.Core.Bool.{true, false, _&&_, not}
+use Prim.Native.Nat.{ℕ, zero, suc, _≤_, _<_}
 use native.Mathlib.Omega.{arith}
-use lib.Dec.{eqb, ltb}
-use Rattle.std.proofs.shelf.Tests.{both-ways, cases-eq, eqb-true}
-use Rattle.sets.specs.Matroid.{pick, Set, size, without, with, none, Matroid}
+use Rattle.std.proofs.shelf.Tests.{both-ways, eqb-true}
+use Rattle.sets.specs.Matroid.{Set, size, without, with, Matroid}
 use Rattle.sets.proofs.FiniteSets.{look-up}
 use Rattle.sets.proofs.MatroidLaws.{matroid}
-use Rattle.matroid.specs.Optimal.{Split}
 use Rattle.matroid.specs.Examples.{left, middle}
 use Rattle.matroid.proofs.SmallMatroids.{small-matroids}
-use Rattle.exchange.specs.Paths.{total, Route, Augmenting, Distinct, Best-path, No-more, As-much, along}
+use Rattle.exchange.specs.Paths.{total, Augmenting, Distinct, No-more, As-much}
 use Rattle.exchange.specs.Examples.{going, ends, rising, Fewest-needed, falling, Splitting-needed}
-use Rattle.exchange.proofs.SmallPaths.{below-three, is-one}
+use Rattle.exchange.proofs.SmallPaths.{below-three}
 
 -- the third test is a matroid
 ends-matroid : Matroid 3 ends

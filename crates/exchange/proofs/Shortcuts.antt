@@ -1,15 +1,13 @@
 -- Shortcuts of an augmenting path: where a later element could come at once, the path without the part between is one too.
-use mathlib.Core.Path.{_≡_, refl, ap, sym, subst, subst₂}
-use mathlib.Core.Bool.{Bool, true, false}
-use mathlib.Core.Logic.{_⊎_, inl, inr, ⊎-elim}
-use Prim.Native.Nat.{ℕ, zero, suc, _+_, _-_, _≤_, _<_}
-use native.Mathlib.Nat.{add-suc, add-zero, add-comm}
+use mathlib.Core.Path.{_≡_, sym, subst, subst₂}
+use mathlib.Core.Bool.{Bool, true}
+use mathlib.Core.Logic.{⊎-elim}
+use Prim.Native.Nat.{ℕ, suc, _+_, _≤_, _<_}
 use native.Mathlib.Omega.{arith}
-use lib.Dec.{eqb, ltb}
-use Rattle.std.proofs.shelf.Tests.{cases-lt, cases-eq, cases-order}
-use Rattle.sets.specs.Matroid.{pick, Set, without, with}
-use Rattle.exchange.specs.Paths.{total, Route, Augmenting, Distinct}
-use Rattle.exchange.proofs.Cuts.{skip, cut, later, skip-once, skip-before, skip-after}
+use Rattle.std.proofs.shelf.Tests.{cases-lt, cases-eq}
+use Rattle.sets.specs.Matroid.{Set, without, with}
+use Rattle.exchange.specs.Paths.{Augmenting, Distinct}
+use Rattle.exchange.proofs.Cuts.{skip, cut, skip-once, skip-before, skip-after}
 
 -- the places that stay are those of the path
 skip-within : (p d e i : ℕ) → i ≤ e → skip p d i ≤ d + e

@@ -1,13 +1,13 @@
 -- A path that repeats an element can be shortened without losing weight, where the set has a weight splitting.
-use mathlib.Core.Path.{_≡_, refl, ap, sym, subst, subst₂, _∙_}
-use mathlib.Core.Bool.{Bool, true, false}
+use mathlib.Core.Path.{_≡_, ap, sym, subst, subst₂, _∙_}
+use mathlib.Core.Bool.{Bool, true}
 use mathlib.Core.Logic.{_⊎_, inl, inr, ⊎-elim}
 use Prim.Native.Nat.{ℕ, zero, suc, _+_, _-_, _≤_, _<_}
 use native.Mathlib.Omega.{arith}
 use Rattle.std.proofs.shelf.Tests.{cases-lt, cases-eq}
-use Rattle.sets.specs.Matroid.{pick, Set, without, with}
+use Rattle.sets.specs.Matroid.{Set, without, with}
 use Rattle.matroid.specs.Optimal.{Split}
-use Rattle.exchange.specs.Paths.{total, Route, Augmenting, Distinct, No-more}
+use Rattle.exchange.specs.Paths.{total, Augmenting, Distinct, No-more}
 use Rattle.exchange.proofs.Cuts.{cut, later, total-cut}
 use Rattle.exchange.proofs.Cycles.{cycle-first, cycle-second}
 use Rattle.exchange.proofs.Shortcuts.{shortcut-first, shortcut-second}

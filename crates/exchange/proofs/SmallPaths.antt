@@ -1,22 +1,19 @@
 -- The theorems on paths at two small matroids on three elements.
-use mathlib.Core.Path.{_≡_, refl, sym, ap, _∙_, subst, subst₂, fun-ext}
-use mathlib.Core.Logic.{_⊎_, inl, inr, ⊎-elim}
-use mathlib.Core.Bool.{Bool, true, false, _&&_, _||_, not}
+use mathlib.Core.Path.{_≡_, refl, sym, ap, subst, subst₂, fun-ext}
+use mathlib.Core.Bool.{true, false}
 use Prim.Native.Nat.{ℕ, zero, suc, _+_, _-_, _≤_, _<_}
 use native.Mathlib.Omega.{arith}
-use lib.Dec.{eqb, ltb}
-use Rattle.std.proofs.shelf.Tests.{both-ways, cases-eq, eqb-true}
-use Rattle.sets.specs.Matroid.{pick, Set, without, with, none}
-use Rattle.matroid.specs.Optimal.{Dual, Split}
+use Rattle.std.proofs.shelf.Tests.{both-ways, eqb-true}
+use Rattle.sets.specs.Matroid.{without, with, none}
 use Rattle.matroid.specs.Examples.{left, right, price, middle, outer}
 use Rattle.matroid.proofs.SmallMatroids.{small-matroids, small-heaviest}
 use Rattle.matroid.proofs.TightExchanges.{many-exchanges-by-keys-and-one}
-use Rattle.exchange.specs.Round.{top, State, Before, Labels, End, lost, behind, Closed}
-use Rattle.exchange.specs.Paths.{total, Route, Augmenting, Distinct, Best-path, No-more, Augmented, Leading}
+use Rattle.exchange.specs.Round.{top, State, Before, Labels, End, lost, behind}
+use Rattle.exchange.specs.Paths.{Route, Augmenting, Best-path, Leading}
 use Rattle.exchange.specs.Predecessors.{twice, comes, goes, Predecessors}
 use Rattle.exchange.specs.Examples.{costs, steps, earlier, Small-labelled, coming, going, Small-path, Small-dual}
 use Rattle.exchange.proofs.BestPaths.{best-augments, best-among-all}
-use Rattle.exchange.proofs.DualSets.{dual-by-closed, dual-by-no-path, leading-closed}
+use Rattle.exchange.proofs.DualSets.{dual-by-closed, leading-closed}
 use Rattle.exchange.proofs.LabelPaths.{labels-best}
 
 -- what holds at 0, 1 and 2 holds below 3

@@ -2,7 +2,7 @@
 -- Assumes nothing: definitions, and facts whose proofs are owed by the functions that name them.
 use mathlib.Core.Path.{_≡_}
 use mathlib.Core.Bool.{Bool, true, false, _&&_, not}
-use Prim.Native.Nat.{ℕ, zero, suc, _+_, _≤_}
+use Prim.Native.Nat.{ℕ, zero, suc}
 use Rattle.sets.specs.Matroid.{Set, none, Matroid}
 use Rattle.matroid.specs.Optimal.{Dual, Split}
 use Rattle.matroid.specs.Examples.{left, right, price, middle, outer}

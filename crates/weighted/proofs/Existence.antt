@@ -1,20 +1,18 @@
 -- There are states of every size up to the largest, so heaviest sets gain less and less.
-use mathlib.Core.Path.{_≡_, refl, ap, sym, subst, _∙_}
-use mathlib.Core.Bool.{Bool, true, false, _&&_, _||_, not}
-use mathlib.Core.Logic.{_⊎_, inl, inr, ⊎-elim}
-use Prim.Native.Nat.{ℕ, zero, suc, _+_, _-_, _*_, _≤_, _<_}
+use mathlib.Core.Path.{_≡_, refl, ap, sym, _∙_}
+use mathlib.Core.Bool.{Bool, true, false, _&&_, not}
+use mathlib.Core.Logic.{inl, inr, ⊎-elim}
+use Prim.Native.Nat.{ℕ, zero, suc, _+_, _-_, _≤_, _<_}
 use native.Mathlib.Omega.{arith}
-use lib.Dec.{eqb, ltb}
-use Rattle.std.proofs.shelf.Tests.{cases-bool, cases-lt, both-ways}
-use Rattle.sets.specs.Matroid.{pick, Set, size, weight, without, with, none, Matroid}
+use Rattle.std.proofs.shelf.Tests.{both-ways}
+use Rattle.sets.specs.Matroid.{Set, size, weight, with, none, Matroid}
 use Rattle.sets.proofs.FiniteSets.{look-up, size-none, size-bound}
 use Rattle.matroid.specs.Optimal.{Dual}
 use Rattle.matroid.proofs.Optimality.{largest}
 use Rattle.matroid.proofs.Gains.{gains-never-rise}
-use Rattle.exchange.specs.Round.{top, State, Before, Labels, End, lost, toggled, Closed}
-use Rattle.exchange.specs.Graph.{Least}
+use Rattle.exchange.specs.Round.{top, State, Labels, End, lost, toggled, Closed}
 use Rattle.exchange.proofs.DualSets.{dual-by-closed}
-use Rattle.weighted.specs.Next.{raised, Next}
+use Rattle.weighted.specs.Next.{raised}
 use Rattle.weighted.specs.Steps.{Next-or-dual, States-exist, Dual-exists, Heaviest-gains-never-rise}
 use Rattle.weighted.proofs.LabelsExist.{least-label, labels-exist}
 use Rattle.weighted.proofs.Moving.{rest, state-split}

@@ -1,15 +1,15 @@
 -- Every state has complete labels: the least label is settled, again and again.
-use mathlib.Core.Path.{_≡_, refl, ap, sym, subst, _∙_}
+use mathlib.Core.Path.{_≡_, refl}
 use mathlib.Core.Bool.{Bool, true, false, _&&_, _||_, not}
-use mathlib.Core.Logic.{_⊎_, inl, inr, ⊎-elim}
-use Prim.Native.Nat.{ℕ, zero, suc, _+_, _-_, _*_, _≤_, _<_}
+use mathlib.Core.Logic.{⊎-elim}
+use Prim.Native.Nat.{ℕ, zero, suc, _+_, _≤_, _<_}
 use native.Mathlib.Omega.{arith}
-use lib.Dec.{eqb, ltb}
+use lib.Dec.{eqb}
 use Rattle.std.proofs.shelf.Tests.{cases-eq, both-ways}
-use Rattle.sets.specs.Matroid.{pick, Set, size, without, with, none, Within}
+use Rattle.sets.specs.Matroid.{pick, Set, size, with, none, Within}
 use Rattle.sets.proofs.FiniteSets.{least, look-up, size-with, part-as-large}
 use Rattle.exchange.specs.Round.{Before}
-use Rattle.exchange.specs.Graph.{arc, addable, cost, Shortest, bettered, Changed, Least}
+use Rattle.exchange.specs.Graph.{arc, addable, cost, Shortest, bettered, Least}
 use Rattle.exchange.proofs.Growing.{size-all}
 use Rattle.exchange.proofs.Settling.{Going, complete, turn}
 use Rattle.exchange.proofs.ShortestLabels.{labels-of-shortest}

@@ -1,11 +1,9 @@
 -- A path that adds all that the state allows leads to a state again, with the same potentials.
-use mathlib.Core.Path.{_≡_, refl, ap, sym, subst, _∙_}
+use mathlib.Core.Path.{_≡_, ap}
 use mathlib.Core.Bool.{Bool, true, false, _&&_, _||_, not}
-use mathlib.Core.Logic.{_⊎_, inl, inr, ⊎-elim}
-use Prim.Native.Nat.{ℕ, zero, suc, _+_, _-_, _*_, _≤_, _<_, min}
+use Prim.Native.Nat.{ℕ, suc, _+_, _-_, _*_, _≤_, _<_}
 use native.Mathlib.Omega.{arith}
-use lib.Dec.{eqb, ltb}
-use Rattle.sets.specs.Matroid.{pick, Set, size, weight, without, with, Matroid}
+use Rattle.sets.specs.Matroid.{Set, size, weight, with, Matroid}
 use Rattle.sets.proofs.FiniteSets.{least, size-with}
 use Rattle.sets.proofs.Weights.{weight-with}
 use Rattle.matroid.specs.Optimal.{Best, Split}
@@ -13,7 +11,7 @@ use Rattle.matroid.specs.Exchanges.{among}
 use Rattle.matroid.proofs.OneMatroid.{heaviest-by-one, as-good-as-best, best-of-one-more}
 use Rattle.matroid.proofs.Optimality.{split-sum}
 use Rattle.exchange.specs.Round.{top, State}
-use Rattle.exchange.specs.Paths.{total, Route, Augmenting, Augmented, along}
+use Rattle.exchange.specs.Paths.{total, Augmenting, Augmented, along}
 use Rattle.exchange.proofs.Along.{among-at}
 use Rattle.exchange.proofs.BestPaths.{comes-for}
 

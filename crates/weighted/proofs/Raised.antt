@@ -1,13 +1,12 @@
 -- Potentials raised by the labels are potentials of the old set again, with the loss of the path.
-use mathlib.Core.Path.{_≡_, refl, ap, sym, subst, _∙_}
-use mathlib.Core.Bool.{Bool, true, false, _&&_, _||_, not}
-use mathlib.Core.Logic.{_⊎_, inl, inr, ⊎-elim}
-use Prim.Native.Nat.{ℕ, zero, suc, _+_, _-_, _*_, _≤_, _<_, min}
+use mathlib.Core.Path.{_≡_}
+use mathlib.Core.Bool.{Bool, true, false}
+use mathlib.Core.Logic.{⊎-elim}
+use Prim.Native.Nat.{ℕ, _+_, _-_, _≤_, _<_, min}
 use native.Mathlib.Omega.{arith}
-use lib.Dec.{eqb, ltb}
 use Rattle.std.proofs.shelf.Tests.{cases-bool}
 use Rattle.sets.specs.Matroid.{pick, Set, without, with}
-use Rattle.exchange.specs.Round.{top, State, Before, Labels, End, lost}
+use Rattle.exchange.specs.Round.{top, State, Labels, End, lost}
 use Rattle.exchange.proofs.LabelPaths.{before-tells}
 use Rattle.weighted.specs.Next.{raised}
 

@@ -1,20 +1,19 @@
 -- The round: from a state, complete labels and an end to the next state, of one element more.
-use mathlib.Core.Path.{_≡_, refl, ap, sym, subst, _∙_, fun-ext}
-use mathlib.Core.Bool.{Bool, true, false, _&&_, _||_, not}
+use mathlib.Core.Path.{_≡_, refl, sym, subst, fun-ext}
+use mathlib.Core.Bool.{Bool, _&&_, _||_, not}
 use Prim.Native.Nat.{ℕ, zero, suc, _+_, _-_, _*_, _≤_, _<_}
 use native.Mathlib.Omega.{arith}
-use lib.IntN.{ℤ, pos, _+ℤ_, _-ℤ_}
+use lib.IntN.{pos, _+ℤ_, _-ℤ_}
 use Rattle.std.proofs.shelf.Signed.{ints}
 use lib.Signed.{_≤ℤ_}
-use Rattle.sets.specs.Matroid.{pick, Set, size, weight, without, with, Matroid}
+use Rattle.sets.specs.Matroid.{Set, size, weight, Matroid}
 use Rattle.sets.proofs.FiniteSets.{size-bound}
 use Rattle.sets.proofs.Weights.{weight-mono, weight-constant}
-use Rattle.matroid.specs.Optimal.{Split, Signed-split}
 use Rattle.matroid.specs.Exchanges.{among}
 use Rattle.matroid.proofs.Optimality.{heaviest, exchanges-suffice}
 use Rattle.matroid.proofs.TightExchanges.{many-exchanges-by-keys-and-one}
 use Rattle.exchange.specs.Round.{top, State, Labels, End, lost, toggled}
-use Rattle.exchange.specs.Paths.{total, Route, Augmenting, Augmented, Distinct, Best-path, No-more, along}
+use Rattle.exchange.specs.Paths.{total, Route, Augmented, Distinct, Best-path, No-more, along}
 use Rattle.exchange.specs.Predecessors.{twice, comes, goes, Predecessors}
 use Rattle.exchange.proofs.Along.{weight-coming, weight-going}
 use Rattle.exchange.proofs.BestPaths.{best-augments, best-among-all}

@@ -1,9 +1,8 @@
 -- The theorems on rounds at two small matroids on three elements.
-use mathlib.Core.Path.{_≡_, refl}
-use mathlib.Core.Bool.{Bool, true, false}
-use Prim.Native.Nat.{ℕ, _≤_, _<_}
+use mathlib.Core.Path.{refl}
+use mathlib.Core.Bool.{true}
 use native.Mathlib.Omega.{arith}
-use Rattle.sets.specs.Matroid.{Set, none}
+use Rattle.sets.specs.Matroid.{none}
 use Rattle.matroid.specs.Examples.{left, right, price, middle, outer}
 use Rattle.matroid.proofs.SmallMatroids.{small-matroids}
 use Rattle.exchange.specs.Examples.{costs, steps, earlier, coming, going}

@@ -1,7 +1,7 @@
 -- The theorems on rounds at the two small matroids on the elements 0, 1 and 2: not both of 0 and 1, and not both of 1 and 2.
 -- Assumes nothing: facts whose proofs are owed by the functions that name them.
 use mathlib.Core.Path.{_≡_}
-use mathlib.Core.Bool.{Bool, true}
+use mathlib.Core.Bool.{true}
 use Prim.Native.Nat.{ℕ, _+_, _≤_}
 use lib.IntN.{pos, _-ℤ_}
 use Rattle.sets.specs.Matroid.{Set, size, weight}

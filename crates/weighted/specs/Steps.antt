@@ -2,8 +2,8 @@
 use mathlib.Core.Path.{_≡_}
 use mathlib.Core.Bool.{Bool, true}
 use mathlib.Core.Logic.{_⊎_}
-use Prim.Native.Nat.{ℕ, suc, _+_, _-_, _*_, _≤_, _<_}
-use lib.IntN.{ℤ, pos, _-ℤ_}
+use Prim.Native.Nat.{ℕ, suc, _+_, _-_, _≤_, _<_}
+use lib.IntN.{pos, _-ℤ_}
 use Rattle.sets.specs.Matroid.{Set, size, weight, Matroid}
 use Rattle.matroid.specs.Optimal.{Dual, Signed-split}
 use Rattle.exchange.specs.Round.{top, State, Labels, End, lost}
