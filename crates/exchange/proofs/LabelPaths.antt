@@ -17,9 +17,8 @@ use Rattle.exchange.proofs.Chains.{twice-is, mark, Outer, Inner, half, inside,
 pub before-tells : (d k e l : ℕ) → Before d k e l ≡ true → (d ≤ e) × (d ≡ e → k ≤ l)
 before-tells d k e l h = (grind arith, λ s. grind arith)
 
-module _ (n : ℕ) (f g : Set → Bool) (w a : ℕ → ℕ) (loss : ℕ) (s reached : Set) (d k back : ℕ → ℕ) (t : ℕ)
-    (light : (x : ℕ) → x < n → w x ≤ top) (state : State n f g w a loss s)
-    (labels : Labels n f g w a s reached d k back) (end : End n g w a s reached d k t) where
+module _ (n : ℕ) (f g : Set → Bool) (w a : ℕ → ℕ) (loss : ℕ) (s reached : Set) (d k back : ℕ → ℕ) (state : State n f g w a loss s)
+    (labels : Labels n f g w a s reached d k back) where
   -- along any path the labels cost no more than the path
   abbrev Reached : ℕ → (ℕ → ℕ) → (ℕ → ℕ) → Type 0
   Reached j u v = (reached (u j) ≡ true) × (total w u j + (d (u j) + a (u j)) ≤ total w v j) ×
@@ -53,6 +52,13 @@ module _ (n : ℕ) (f g : Set → Bool) (w a : ℕ → ℕ) (loss : ℕ) (s reac
             omega arith,
       )
 
+  -- so the end of any path is reached
+  pub path-reached : (l : ℕ) (u v : ℕ → ℕ) → Augmenting n f g s l u v → reached (u l) ≡ true
+  path-reached l u v path = walked l u v path l (omega arith) .0
+
+module _ (n : ℕ) (f g : Set → Bool) (w a : ℕ → ℕ) (loss : ℕ) (s reached : Set) (d k back : ℕ → ℕ) (t : ℕ)
+    (light : (x : ℕ) → x < n → w x ≤ top) (state : State n f g w a loss s)
+    (labels : Labels n f g w a s reached d k back) (end : End n g w a s reached d k t) where
   module _ (m : ℕ) (whole : k t ≡ suc (twice m)) where
     -- the elements of the path outside of the set
     at : (i : ℕ) → i ≤ m → Outer n s reached k back t i
@@ -124,7 +130,7 @@ module _ (n : ℕ) (f g : Set → Bool) (w a : ℕ → ℕ) (loss : ℕ) (s reac
     path-best : (l : ℕ) (u v : ℕ → ℕ) → Augmenting n f g s l u v →
         No-more w l u v m (comes back t m) (goes back t m) × (As-much w l u v m (comes back t m) (goes back t m) → m ≤ l)
     path-best l u v other =
-        let r = walked l u v other l (omega arith) in
+        let r = walked n f g w a loss s reached d k back state labels l u v other l (omega arith) in
         let p = before-tells (lost w a d t) (k t) (lost w a d (u l)) (k (u l))
         (end .least (u l) (other .route .x-below l (omega arith)) (other .route .x-fresh l (omega arith)) (r .0) (other .route .sink)) in
         let s1 : total w u l + (d (u l) + a (u l)) ≤ total w v l = r .1 in

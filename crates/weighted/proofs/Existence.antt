@@ -32,7 +32,7 @@ empty-state n f g w first second light = record {
 
 module _ (n : ℕ) (f g : Set → Bool) (w a : ℕ → ℕ) (loss : ℕ) (s reached : Set) (d k back : ℕ → ℕ) (labels : Labels n f g w a s reached d k back) where
   -- a sink that is reached
-  abbrev ending : ℕ → Bool
+  abbrev pub ending : ℕ → Bool
   ending x = not (s x) && (reached x && g (with s x))
 
   -- what that says
@@ -43,7 +43,7 @@ module _ (n : ℕ) (f g : Set → Bool) (w a : ℕ → ℕ) (loss : ℕ) (s reac
       plain p q r h = (grind arith, grind arith, grind arith)
 
   -- where there is one, there is one of least loss and of fewest steps
-  end-exists : (x : ℕ) → x < n → ending x ≡ true → (t : ℕ) × End n g w a s reached d k t
+  pub end-exists : (x : ℕ) → x < n → ending x ≡ true → (t : ℕ) × End n g w a s reached d k t
   end-exists x h e =
       let r = least-label n ending (lost w a d) k x h e in
       let p = ending-parts (r .0) (r .1 .1) in (

@@ -1,3 +1,4 @@
+pub mod Converses
 pub mod Existence
 pub mod LabelsExist
 pub mod Moving

@@ -6,8 +6,9 @@ use Rattle.sets.specs.Matroid.{none}
 use Rattle.matroid.specs.Examples.{left, right, price, middle, outer}
 use Rattle.matroid.proofs.SmallMatroids.{small-matroids}
 use Rattle.exchange.specs.Examples.{costs, steps, earlier, coming, going}
-use Rattle.exchange.proofs.SmallPaths.{light, small-labelled, small-path}
-use Rattle.weighted.specs.Examples.{Small-round, Small-state, Small-existence}
+use Rattle.exchange.proofs.SmallPaths.{light, small-labelled, small-path, small-dual}
+use Rattle.weighted.specs.Examples.{Small-round, Small-state, Small-existence, Small-converses}
+use Rattle.weighted.proofs.Converses.{heaviest-splits, paths-augment, no-path-largest}
 use Rattle.weighted.proofs.Existence.{states-exist, dual-exists, heaviest-gains-never-rise}
 use Rattle.weighted.proofs.LabelsExist.{labels-exist}
 use Rattle.weighted.proofs.Rounds.{round, best-next, state-splits, state-heaviest}
@@ -36,4 +37,12 @@ small-existence = (
   dual-exists 3 left right (small-matroids .0) (small-matroids .1),
   heaviest-gains-never-rise 3 left right price none middle outer (small-matroids .0) (small-matroids .1) light refl refl refl refl refl refl refl refl
       (small-state .1),
+)
+
+-- what a heaviest and a largest choice must have
+pub small-converses : Small-converses
+small-converses = (
+  heaviest-splits 3 left right price middle (small-matroids .0) (small-matroids .1) light refl refl (small-state .1),
+  paths-augment 3 left right middle 1 coming going (small-matroids .0) (small-matroids .1) refl refl (small-path .0 .path),
+  (λ t lt rt. no-path-largest 3 left right outer t (small-matroids .0) (small-matroids .1) refl refl (small-dual .0) lt rt),
 )

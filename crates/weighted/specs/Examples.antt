@@ -5,7 +5,7 @@ use mathlib.Core.Bool.{true}
 use Prim.Native.Nat.{ℕ, _+_, _≤_}
 use lib.IntN.{pos, _-ℤ_}
 use Rattle.sets.specs.Matroid.{Set, size, weight}
-use Rattle.matroid.specs.Optimal.{Dual, Signed-split}
+use Rattle.matroid.specs.Optimal.{Dual, Split, Signed-split}
 use Rattle.matroid.specs.Examples.{left, right, price, middle, outer}
 use Rattle.exchange.specs.Round.{State, Labels}
 use Rattle.exchange.specs.Paths.{along}
@@ -32,3 +32,10 @@ Small-existence =
     ((a : ℕ → ℕ) × (loss : ℕ) × (s : Set) × State 3 left right price a loss s × (size 3 s ≡ 2)) ×
     ((s : Set) × (u : Set) × Dual 3 left right s u) ×
     (weight 3 price outer + 0 ≤ 5 + 5)
+
+-- 1 has a weight splitting, its path gives two elements, and 0 and 2 with no path are a largest choice
+abbrev pub Small-converses : Type 0
+Small-converses =
+    ((a : ℕ → ℕ) × (b : ℕ → ℕ) × Split 3 left right price a b middle) ×
+    ((t : Set) × (left t ≡ true) × (right t ≡ true) × (size 3 t ≡ 2)) ×
+    ((t : Set) → left t ≡ true → right t ≡ true → size 3 t ≤ 2)

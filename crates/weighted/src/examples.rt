@@ -1,5 +1,5 @@
 // The theorems on rounds used at two small matroids on three elements. Each function's contract names what is shown there.
-ghost use Rattle.weighted.specs.Examples.{Small-round, Small-state, Small-existence};
+ghost use Rattle.weighted.specs.Examples.{Small-round, Small-state, Small-existence, Small-converses};
 
 // A round at the two small matroids.
 pub fn small_round() -> u8
@@ -18,6 +18,13 @@ pub fn small_state() -> u8
 // Labels, states, dual sets and gains at the two small matroids.
 pub fn small_existence() -> u8
     ensures { λ _. ⌜ Small-existence ⌝ }
+{
+    0
+}
+
+// A splitting, a set of one element more and a largest choice at the two small matroids.
+pub fn small_converses() -> u8
+    ensures { λ _. ⌜ Small-converses ⌝ }
 {
     0
 }

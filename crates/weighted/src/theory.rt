@@ -1,4 +1,5 @@
 // What is proved of a round for any two matroids over the same elements. Each function's contract names its theorem.
+ghost use Rattle.weighted.specs.Converses.{Heaviest-splits, Paths-augment, No-path-largest};
 ghost use Rattle.weighted.specs.Next.{Round};
 ghost use Rattle.weighted.specs.Steps.{State-splits, State-heaviest, Best-next, Labels-exist, Next-or-dual, States-exist, Dual-exists, Heaviest-gains-never-rise};
 
@@ -62,6 +63,27 @@ pub fn dual_sets_exist() -> u8
 // From one size to the next a heaviest set gains no more than from the size before.
 pub fn gains_of_heaviest_sets_never_rise() -> u8
     ensures { λ _. ⌜ Heaviest-gains-never-rise ⌝ }
+{
+    0
+}
+
+// A heaviest set of its size has a weight splitting.
+pub fn heaviest_sets_have_splittings() -> u8
+    ensures { λ _. ⌜ Heaviest-splits ⌝ }
+{
+    0
+}
+
+// Where there is an augmenting path, both matroids allow some set of one element more.
+pub fn paths_augment() -> u8
+    ensures { λ _. ⌜ Paths-augment ⌝ }
+{
+    0
+}
+
+// Where there is none, the set is a largest one.
+pub fn sets_without_paths_are_largest() -> u8
+    ensures { λ _. ⌜ No-path-largest ⌝ }
 {
     0
 }
