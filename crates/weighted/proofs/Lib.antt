@@ -7,4 +7,5 @@ pub mod Progress
 pub mod Raised
 pub mod Rounds
 pub mod SmallRounds
+pub mod Turning
 pub mod Written

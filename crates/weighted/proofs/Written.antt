@@ -8,10 +8,7 @@ use lib.Signed.{_≤ℤ_}
 use native.Mathlib.Omega.{arith}
 use Rattle.sets.specs.Matroid.{Set, with, without, Matroid}
 use Rattle.sets.proofs.MatroidLaws.{allowed-same}
-use Rattle.matroid.proofs.Optimality.{exchanges-suffice}
 use Rattle.matroid.specs.Optimal.{Signed-split}
-use Rattle.exchange.specs.Round.{State}
-use borrow.Author.Differences.{ints}
 
 
 -- sets that agree with one element more are allowed alike
@@ -50,22 +47,3 @@ signed-along {n} {f} {g} mf mg w p q p′ q′ s t e ep eq h =
           le-alike (q x) (q y) (q′ x) (q′ y) (eq x xl) (eq y yl)
           (h .exchange-second y x yl xl (sym (e y yl) ∙ iy) (sym (e x xl) ∙ ix) (sym (swap-alike mg s t y x e) ∙ ok));
     }
-
--- the two parts add up to the weight
-parts-sum : (w a : ℕ) → pos a +ℤ (pos w -ℤ pos a) ≡ pos w
-parts-sum w a = omega (arith, ints)
-
-first-le : (b a : ℕ) → b ≤ a → pos b ≤ℤ pos a
-first-le b a h = omega (arith, ints)
-
-rest-le : (w v a b : ℕ) → w + b ≤ v + a → (pos w -ℤ pos a) ≤ℤ (pos v -ℤ pos b)
-rest-le w v a b h = omega (arith, ints)
-
--- the potentials of a state and what they leave of the weights are a splitting in whole numbers
-pub state-splits : (n : ℕ) (f g : Set → Bool) (w a : ℕ → ℕ) (loss : ℕ) (s : Set) → Matroid n f → Matroid n g → State n f g w a loss s →
-    Signed-split n f g w (λ x. pos (a x)) (λ x. pos (w x) -ℤ pos (a x)) s
-state-splits n f g w a loss s mf mg h =
-    exchanges-suffice n f g w (λ x. pos (a x)) (λ x. pos (w x) -ℤ pos (a x)) s mf mg (h .first) (h .second)
-    (λ x l. parts-sum (w x) (a x))
-    (λ y x yl xl iy ix ok. first-le (a x) (a y) (h .first-best y x yl xl iy ix ok))
-    (λ y x yl xl iy ix ok. rest-le (w x) (w y) (a x) (a y) (h .second-best y x yl xl iy ix ok))

@@ -43,7 +43,7 @@ weight-of-size n w sets (suc j) = weight n w (sized-set n sets j)
 
 -- the exchanges that a round asks of a set of k offers: each pair of one outside and one inside, of both rules
 abbrev pub round-calls : ℕ → ℕ → ℕ
-round-calls n k = 2 * (k * (n - k))
+round-calls n k = 2 * k * (n - k)
 
 -- those of all rounds, the last one too, which finds no path
 abbrev pub all-calls : ℕ → ℕ → ℕ

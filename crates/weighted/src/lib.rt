@@ -1,4 +1,5 @@
 // A heaviest choice for every size, and theorems on the rounds that find it.
 pub mod examples;
 mod parts;
+mod turn;
 pub mod theory;

@@ -1,0 +1,40 @@
+use borrow.Author.Needs.{needs}
+use native.Mathlib.Omega.{arith}
+use Rattle.sets.specs.Bits.{marked}
+use Rattle.exchange.specs.Graph.{at}
+use Rattle.matroid.specs.Rules.{allows}
+use Rattle.matroid.proofs.RuleLaws.{rule-matroid}
+use Rattle.weighted.proofs.Turning.{loss-fits, added-by, some-end}
+use Rattle.weighted.proofs.turn.advance.Needs as need
+
+pub find-path-outcome-requires : need.find-path-outcome-requires
+find-path-outcome-requires c κs =
+    record {
+      sizes = c .pre .sizes;
+      rows = c .pre .rows;
+      numbers = c .pre .numbers;
+      states = c .pre .states;
+      well = c .pre .well;
+      light = c .pre .light;
+      state = (c .args .loss, c .pre .state, loss-fits (c .args .n) (c .args .loss) (marked (c .args .set .now)) (c .pre .sizes .0) (c .pre .low));
+    }
+
+pub returns-in-Some : need.returns-in-Some
+returns-in-Some c =
+    let n = c .args .n in
+    let file = c .args .file .now in
+    let w = at (c .args .weights .now) in
+    let a = at (c .args .potentials .now) in
+    let s = marked (c .args .set .now) in
+    let end =
+        some-end (c .find-path-outcome .result .end) (c .in-Some .t) _ _ (c .in-Some .is) (c .find-path-outcome .ensures .ends) in
+    record {
+      asked = c .find-path-outcome .ensures .asked;
+      ends =
+          added-by n (allows file n (c .args .first)) (allows file n (c .args .second)) w a (at (c .raise .last .potentials)) (c .args .loss)
+          (c .loss-risen .result) s (marked (c .toggle-path .last .set)) (marked (c .find-path-outcome .last .reached))
+          (at (c .find-path-outcome .last .costs)) (at (c .find-path-outcome .last .steps)) (at (c .find-path-outcome .last .back))
+          (c .in-Some .t) (rule-matroid file n (c .args .first) (c .pre .well .0)) (rule-matroid file n (c .args .second) (c .pre .well .1))
+          (c .pre .light) (c .pre .state) (c .find-path-outcome .ensures .labels) end (c .loss-risen .ensures) (c .toggle-path .ensures)
+          (c .raise .ensures);
+    }
