@@ -5,6 +5,7 @@ pub mod LabelsExist
 pub mod Moving
 pub mod Progress
 pub mod Raised
+pub mod Rounding
 pub mod Rounds
 pub mod SmallRounds
 pub mod Turning
