@@ -44,11 +44,11 @@ pub record Well (file : List ℕ) (n volunteers at : ℕ) : Type 0 where
   pub whole : at + volunteers * row-bytes n ≤ length file
   pub clean : (v i : ℕ) → v < volunteers → n ≤ i → i < 8 * row-bytes n → can-tend file n at v i ≡ false
 
--- bit x of kept row k: a row for each offer, row n for no offer, and the volunteers' rows behind them
+-- bit x of row k, where each row takes `width` words
 abbrev pub in-row : List ℕ → ℕ → ℕ → ℕ → Bool
-in-row state n k x = word-row state (k * row-words n) x
+in-row rows width k x = word-row rows (k * width) x
 
--- how many words are kept for n offers
+-- how many words are kept for n offers: a row for each offer, row n for no offer, and the volunteers' rows behind them
 abbrev pub kept-length : ℕ → ℕ
 kept-length n = (n + 601) * row-words n
 
@@ -57,9 +57,9 @@ kept-length n = (n + 601) * row-words n
 pub record Ready (file : List ℕ) (n volunteers at : ℕ) (s : Set) (state : List ℕ) : Type 0 where
   pub long : kept-length n ≤ length state
   pub allowed : allows file n volunteers at s ≡ true
-  pub adds : (x : ℕ) → x < n → s x ≡ false → in-row state n n x ≡ allows file n volunteers at (with s x)
+  pub adds : (x : ℕ) → x < n → s x ≡ false → in-row state (row-words n) n x ≡ allows file n volunteers at (with s x)
   pub exchanges : (x y : ℕ) → x < n → y < n → s x ≡ false → s y ≡ true →
-      (in-row state n n x || in-row state n y x) ≡ allows file n volunteers at (with (without s y) x)
+      (in-row state (row-words n) n x || in-row state (row-words n) y x) ≡ allows file n volunteers at (with (without s y) x)
 
 -- the natural reading and the test say the same
 abbrev pub Reading-agrees : Type 0
