@@ -15,12 +15,20 @@ use sets::refusal::Refusal;
 use sets::refusal::Source;
 use sets::words;
 
+// How many bytes a row of n bits takes.
+fn row_bytes(n: usize) -> usize
+    requires { ⌜ n ≤ 600 ⌝ }
+    ensures { λ r. ⌜ r ≡ row-bytes n ⌝ }
+{
+    (n + 7) / 8
+}
+
 // How many bytes a group takes.
 fn group_bytes(n: usize) -> usize
     requires { ⌜ n ≤ 600 ⌝ }
     ensures { λ r. ⌜ r ≡ group-bytes n ⌝ }
 {
-    2 + (n + 7) / 8
+    2 + row_bytes(n)
 }
 
 // Where group g begins.
@@ -83,7 +91,7 @@ fn is_stray(file: &[u8], n: usize, at: usize, g: usize) -> bool
     ensures { λ r. ⌜ r ≡ has-stray (now (file .entry)) n at g ⌝ }
 {
     let place = group_at(n, at, g) + 2;
-    let behind = (n + 7) / 8 * 8 - n;
+    let behind = 8 * row_bytes(n) - n;
     let mut found = false;
     for k in 0..behind {
         found = found | bytes::contains(file, place, n + k);
@@ -111,7 +119,7 @@ fn check_group(file: &[u8], n: usize, at: usize, g: usize) -> Result<(), Refusal
         return Err(Refusal::Overlap(place));
     }
     if is_stray(file, n, at, g) {
-        return Err(Refusal::Range(Source::Offers, place + 1 + (n + 7) / 8));
+        return Err(Refusal::Range(Source::Offers, place + 1 + row_bytes(n)));
     }
     Ok(())
 }
