@@ -1,1 +1,3 @@
-// (empty)
+// Matroids over offers: theorems on any of them.
+pub mod examples;
+pub mod theory;

@@ -2,4 +2,5 @@
 pub mod bytes;
 pub mod numbers;
 pub mod refusal;
+pub mod theory;
 pub mod words;

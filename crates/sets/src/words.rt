@@ -6,7 +6,8 @@ ghost use Prim.Native.Nat.{ℕ, _+_, _-_, _*_, _/_, _%_, _^_, _<_, _≤_};
 ghost use lib.Dec.{eqb, ltb};
 ghost use lib.ListN.{length, getD};
 ghost use Rattle.sets.specs.Bits.{marked, row, word-row, row-words, row-bytes, xor, Same-but};
-ghost use Rattle.sets.specs.Matroid.{size};
+ghost use Rattle.sets.specs.Matroid.{size, Within};
+ghost use Rattle.std.specs.Orderings.{Decides};
 
 // Is i in the row?
 pub fn contains(words: &[u32], at: usize, i: usize) -> bool
@@ -32,6 +33,46 @@ pub fn remove(words: &mut [u32], at: usize, i: usize)
     ensures rest { λ _. ⌜ Same-but (at + i / 32) 1 (now (words .entry)) (now (words .exit)) ⌝ }
 {
     words[at + i / 32] &= !(1 << (i % 32));
+}
+
+// How many of the first n elements are in the row.
+pub fn count(words: &[u32], at: usize, n: usize) -> usize
+    requires { ⌜ 32 * at + n ≤ 32 * length (now words) ⌝ }
+    ensures { λ r. ⌜ r ≡ size n (word-row (now (words .entry)) at) ⌝ }
+{
+    let mut total = 0;
+    for i in 0..n {
+        if contains(words, at, i) {
+            total += 1;
+        }
+    }
+    total
+}
+
+// Have row `at` of a and row `to` of b the same of the first n elements?
+pub fn equal(a: &[u32], at: usize, b: &[u32], to: usize, n: usize) -> bool
+    requires { ⌜ 32 * at + n ≤ 32 * length (now a) ⌝ ∗ ⌜ 32 * to + n ≤ 32 * length (now b) ⌝ }
+    ensures { λ r. ⌜ Decides r ((i : ℕ) → i < n → word-row (now (a .entry)) at i ≡ word-row (now (b .entry)) to i) ⌝ }
+{
+    for i in 0..n {
+        if contains(a, at, i) != contains(b, to, i) {
+            return false;
+        }
+    }
+    true
+}
+
+// Does row `at` of a lie in row `to` of b, as to the first n elements?
+pub fn lies_in(a: &[u32], at: usize, b: &[u32], to: usize, n: usize) -> bool
+    requires { ⌜ 32 * at + n ≤ 32 * length (now a) ⌝ ∗ ⌜ 32 * to + n ≤ 32 * length (now b) ⌝ }
+    ensures { λ r. ⌜ Decides r (Within n (word-row (now (a .entry)) at) (word-row (now (b .entry)) to)) ⌝ }
+{
+    for i in 0..n {
+        if contains(a, at, i) && !contains(b, to, i) {
+            return false;
+        }
+    }
+    true
 }
 
 // Makes the `len` words from `at` on 0: an empty row.

@@ -1,0 +1,4 @@
+pub mod Augment
+pub mod Growth
+pub mod Laws
+pub mod Matchings
