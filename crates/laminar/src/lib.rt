@@ -181,7 +181,7 @@ pub fn independent(
     requires rule { ⌜ n ≤ 600 ⌝ ∗ ⌜ Well (now file) n groups at ⌝ }
     requires room { ⌜ row-words n ≤ length (now set) ⌝ ∗ ⌜ kept-length n ≤ length (now state) ⌝ }
     ensures answers { λ r. ⌜ r ≡ allows (now (file .entry)) n groups at (marked (now (set .entry))) ⌝ }
-    ensures keeps { λ r. ⌜ (r ≡ true → Ready (now (file .entry)) n groups at (marked (now (set .entry))) (now (state .exit))) ⌝ }
+    ensures kept { λ r. ⌜ (r ≡ true → Ready (now (file .entry)) n groups at (marked (now (set .entry))) (now (state .exit))) ⌝ }
 {
     words::clear_row(state, 0, 2 + 2 * n);
     for g in 0..groups {

@@ -32,7 +32,7 @@ returns-then-held-most c = record {
   answers = sym (too-many (c .args .n) (in-group (c .args .file .now) (c .args .n) (c .args .at)) (limit (c .args .file .now) (c .args .n) (c .args .at))
       (c .args .groups) (marked (c .args .set .now)) (c .loop-g .g) (c .loop-g-test .taken)
       (omega (arith, c .if-held-most .taken, c .count-group-held .ensures, c .limit-most .ensures)));
-  keeps = λ e. absurd (both-ways false refl e);
+  kept = λ e. absurd (both-ways false refl e);
 }
 
 pub mark-group-requires : need.mark-group-requires
