@@ -1,12 +1,12 @@
 -- Sets that stay within the limits of nested groups form a matroid.
-use mathlib.Core.Path.{_≡_, refl, sym, _∙_}
+use mathlib.Core.Path.{_≡_, refl}
 use mathlib.Core.Bool.{Bool, true, false, _&&_, _||_, not}
 use mathlib.Core.Logic.{_⊎_, inl, inr, ⊎-elim}
 use Prim.Native.Nat.{ℕ, zero, suc, _+_, _≤_, _<_}
 use native.Mathlib.Omega.{arith}
-use lib.Dec.{eqb, leb, ltb}
+use lib.Dec.{eqb, leb}
 use Rattle.std.proofs.shelf.Tests.{cases-bool, both-ways, cases-eq, leb-true, le-leb, eqb-true, and-parts}
-use Rattle.sets.specs.Matroid.{Set, pick, size, both, outside, with, without, none, Within, Hereditary, Augmentable, Matroid}
+use Rattle.sets.specs.Matroid.{Set, size, both, outside, with, none, Within, Hereditary, Augmentable, Matroid}
 use Rattle.laminar.specs.Limits.{fits, Nested}
 use Rattle.sets.proofs.FiniteSets.{size-same, size-within, size-parts, has-element, look-up}
 use Rattle.laminar.proofs.Sizes.{size-empty, part-with}

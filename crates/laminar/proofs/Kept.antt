@@ -1,18 +1,18 @@
 -- What is kept: words as sets of groups, and the answers that are read off them.
-use mathlib.Core.Path.{_≡_, refl, sym, _∙_, ap}
-use mathlib.Core.Bool.{Bool, true, false, _&&_, _||_, not}
+use mathlib.Core.Path.{_≡_, sym, _∙_, ap}
+use mathlib.Core.Bool.{Bool, true, false}
 use mathlib.Core.List.{List}
 use mathlib.Core.Logic.{_⊎_, inl, inr, ⊎-elim}
 use Prim.Native.Nat.{ℕ, zero, suc, _+_, _-_, _*_, _/_, _%_, _^_, _≤_, _<_}
 use native.Mathlib.Omega.{arith}
-use lib.Bits.{bitAnd, bitOr}
-use lib.Dec.{eqb, leb, ltb}
-use lib.ListN.{length, getD}
+use lib.Bits.{bitOr}
+use lib.Dec.{eqb}
+use lib.ListN.{getD}
 use Rattle.std.proofs.shelf.Bits.{or-lt}
-use Rattle.std.proofs.shelf.Tests.{cases-eq, cases-lt, both-ways, eq-eqb, ne-eqb, or-cases, or-parts}
-use Rattle.sets.specs.Matroid.{Set, pick, size, both, with, without}
+use Rattle.std.proofs.shelf.Tests.{cases-lt, both-ways, eq-eqb, ne-eqb, or-cases, or-parts}
+use Rattle.sets.specs.Matroid.{Set}
 use Rattle.sets.specs.Bits.{marked, word-row}
-use Rattle.sets.proofs.Masks.{bit, bit-or, bit-and, bit-not, bit-zero, bit-shr}
+use Rattle.sets.proofs.Masks.{bit, bit-or, bit-zero, bit-shr}
 use Rattle.sets.proofs.Stretches.{word-row-is}
 use Rattle.sets.proofs.FiniteSets.{look-up}
 

@@ -1,24 +1,23 @@
 -- What reading a rule of limits says: it is well formed, or the refusal is the first of its faults.
-use mathlib.Core.Path.{_≡_, refl, sym, _∙_, subst}
-use mathlib.Core.Bool.{Bool, true, false, _&&_, _||_, not, cond}
+use mathlib.Core.Path.{_≡_, refl, _∙_, subst}
+use mathlib.Core.Bool.{Bool, true, false, cond}
 use mathlib.Core.List.{List}
 use mathlib.Core.Logic.{_⊎_, inl, inr, ⊎-elim}
 use Prim.Native.Nat.{ℕ, zero, suc, _+_, _-_, _*_, _≤_, _<_}
 use native.Mathlib.Omega.{arith}
 use lib.Dec.{leb, ltb}
-use lib.ListN.{length, getD}
-use Rattle.std.proofs.shelf.Tests.{cases-bool, cases-eq, cases-lt, cases-order, both-ways, ltb-true, ltb-false, leb-true, leb-false, le-ltb}
+use lib.ListN.{length}
+use Rattle.std.proofs.shelf.Tests.{cases-eq, cases-order, both-ways, ltb-true, ltb-false, leb-true, leb-false, le-ltb}
 use Rattle.std.specs.declared.result.Result.{Result}
 use Rattle.std.specs.declared.result.Result.the-variants.{Ok, Err}
 use Rattle.sets.specs.declared.refusal.Refusal.{Refusal}
 use Rattle.sets.specs.declared.refusal.Refusal.the-variants.{Length, Range, Overlap}
 use Rattle.sets.specs.declared.refusal.Source.the-variants.{Offers}
-use Rattle.sets.specs.Matroid.{Set}
 use Rattle.sets.specs.Bits.{row-bytes}
 use Rattle.sets.specs.Refusals.{place, number, Precedes, First}
 use Rattle.laminar.specs.Limits.{group-bytes, group-at, limit, in-group, Nested, Well}
-use Rattle.laminar.specs.Reading.{count, end, Group-fault, high, overlap, stray, Fault, cut, many, group, some, overlaps, overlaps-below, has-stray, then, read-group, read-groups, read}
-use Rattle.laminar.proofs.Nested.{some-found, some-none, none-some, found-some, overlaps-true, overlapping-true, overlaps-false, nested-false, nested-swap}
+use Rattle.laminar.specs.Reading.{count, end, Group-fault, high, overlap, stray, Fault, cut, many, group, overlaps, overlaps-below, has-stray, then, read-group, read-groups, read}
+use Rattle.laminar.proofs.Nested.{some-found, some-none, none-some, overlaps-true, overlapping-true, overlaps-false, nested-false, nested-swap}
 use Rattle.laminar.proofs.Steps.{ends-before, next-group, passed, Passed, group-passed, read-in-range}
 
 -- two results one after the other are fine where both are

@@ -1,11 +1,10 @@
 -- Sizes of the part of a set that lies in a group.
 use mathlib.Core.Path.{_≡_, _∙_}
-use mathlib.Core.Bool.{Bool, true, false, _&&_, not}
+use mathlib.Core.Bool.{true, false}
 use mathlib.Core.Logic.{⊎-elim}
-use Prim.Native.Nat.{ℕ, suc, _+_, _<_}
+use Prim.Native.Nat.{ℕ, _+_, _<_}
 use native.Mathlib.Numerals.{add-one}
 use native.Mathlib.Omega.{arith}
-use lib.Dec.{eqb}
 use Rattle.std.proofs.shelf.Tests.{cases-bool}
 use Rattle.sets.specs.Matroid.{Set, pick, size, both, with, without, none}
 use Rattle.sets.proofs.FiniteSets.{size-same, size-none, size-with, size-without}

@@ -3,8 +3,8 @@
 // byte first, and a row of bits, bit i for offer i.
 ghost use mathlib.Core.Path.{_≡_};
 ghost use mathlib.Core.Bool.{true, false};
-ghost use Prim.Native.Nat.{ℕ, _+_, _-_, _*_, _/_, _%_, _^_, _<_, _≤_};
-ghost use lib.ListN.{length, getD};
+ghost use Prim.Native.Nat.{_+_, _-_, _*_, _/_, _^_, _<_, _≤_};
+ghost use lib.ListN.{length};
 ghost use Rattle.sets.specs.Bits.{row, row-bytes, row-words, marked};
 ghost use Rattle.sets.specs.Matroid.{size, both, with, without};
 ghost use Rattle.laminar.specs.Limits.{group-bytes, group-at, limit, in-group, allows, kept-length, Well, Ready, Marked, Reading-agrees, Limits-matroid};

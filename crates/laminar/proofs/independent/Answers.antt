@@ -1,13 +1,12 @@
-use mathlib.Core.Path.{_≡_, refl, sym, _∙_, ap, subst}
+use mathlib.Core.Path.{refl, sym, _∙_, subst}
 use mathlib.Core.Bool.{false}
 use mathlib.Core.List.{List}
 use Prim.Native.Nat.{ℕ, _+_, _≤_}
 use native.Mathlib.Omega.{arith}
-use lib.ListN.{length}
 use Rattle.std.proofs.shelf.Tests.{both-ways}
 use Rattle.sets.specs.Bits.{marked}
 use Rattle.sets.specs.Matroid.{size, both}
-use Rattle.laminar.specs.Limits.{limit, in-group, kept-length, Ready}
+use Rattle.laminar.specs.Limits.{limit, in-group, Ready}
 use Rattle.laminar.proofs.Steps.{ends-before}
 use Rattle.laminar.proofs.Moves.{too-many}
 use Rattle.laminar.proofs.Keeping.{ready-none, ready-full, ready-open}
