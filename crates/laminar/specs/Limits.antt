@@ -1,12 +1,12 @@
 -- Rules of limits: groups of offers, any two of them apart or one inside the other, and how many of each group a set may have.
 use mathlib.Core.Path.{_≡_}
-use mathlib.Core.Bool.{Bool, true, false, _&&_, _||_, not}
+use mathlib.Core.Bool.{Bool, true, false, _&&_, _||_}
 use mathlib.Core.List.{List}
 use mathlib.Core.Logic.{_⊎_}
 use Prim.Native.Nat.{ℕ, zero, suc, _+_, _*_, _≤_, _<_}
 use lib.Dec.{leb, ltb, eqb}
-use lib.ListN.{length, getD}
-use Rattle.sets.specs.Matroid.{Set, size, both, outside, with, without, Within, Matroid}
+use lib.ListN.{length}
+use Rattle.sets.specs.Matroid.{Set, size, both, Within, Matroid}
 use Rattle.sets.specs.Bits.{row, word-row, marked, row-bytes, le2}
 
 -- a group in the file: two bytes for its limit, then a row of bits

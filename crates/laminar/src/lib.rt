@@ -3,8 +3,8 @@
 // byte first, and a row of bits, bit i for offer i.
 ghost use mathlib.Core.Path.{_≡_};
 ghost use mathlib.Core.Bool.{true, false};
-ghost use Prim.Native.Nat.{ℕ, _+_, _-_, _*_, _/_, _%_, _^_, _<_, _≤_};
-ghost use lib.ListN.{length, getD};
+ghost use Prim.Native.Nat.{_+_, _-_, _*_, _/_, _^_, _<_, _≤_};
+ghost use lib.ListN.{length};
 ghost use Rattle.sets.specs.Bits.{row, row-bytes, row-words, marked};
 ghost use Rattle.sets.specs.Matroid.{size, both, with, without};
 ghost use Rattle.laminar.specs.Limits.{group-bytes, group-at, limit, in-group, allows, kept-length, Well, Ready, Marked, Reading-agrees, Limits-matroid};
@@ -15,12 +15,20 @@ use sets::refusal::Refusal;
 use sets::refusal::Source;
 use sets::words;
 
+// How many bytes a row of n bits takes.
+fn row_bytes(n: usize) -> usize
+    requires { ⌜ n ≤ 600 ⌝ }
+    ensures { λ r. ⌜ r ≡ row-bytes n ⌝ }
+{
+    (n + 7) / 8
+}
+
 // How many bytes a group takes.
 fn group_bytes(n: usize) -> usize
     requires { ⌜ n ≤ 600 ⌝ }
     ensures { λ r. ⌜ r ≡ group-bytes n ⌝ }
 {
-    2 + (n + 7) / 8
+    2 + row_bytes(n)
 }
 
 // Where group g begins.
@@ -83,7 +91,7 @@ fn is_stray(file: &[u8], n: usize, at: usize, g: usize) -> bool
     ensures { λ r. ⌜ r ≡ has-stray (now (file .entry)) n at g ⌝ }
 {
     let place = group_at(n, at, g) + 2;
-    let behind = (n + 7) / 8 * 8 - n;
+    let behind = 8 * row_bytes(n) - n;
     let mut found = false;
     for k in 0..behind {
         found = found | bytes::contains(file, place, n + k);
@@ -111,7 +119,7 @@ fn check_group(file: &[u8], n: usize, at: usize, g: usize) -> Result<(), Refusal
         return Err(Refusal::Overlap(place));
     }
     if is_stray(file, n, at, g) {
-        return Err(Refusal::Range(Source::Offers, place + 1 + (n + 7) / 8));
+        return Err(Refusal::Range(Source::Offers, place + 1 + row_bytes(n)));
     }
     Ok(())
 }
@@ -173,7 +181,7 @@ pub fn independent(
     requires rule { ⌜ n ≤ 600 ⌝ ∗ ⌜ Well (now file) n groups at ⌝ }
     requires room { ⌜ row-words n ≤ length (now set) ⌝ ∗ ⌜ kept-length n ≤ length (now state) ⌝ }
     ensures answers { λ r. ⌜ r ≡ allows (now (file .entry)) n groups at (marked (now (set .entry))) ⌝ }
-    ensures keeps { λ r. ⌜ (r ≡ true → Ready (now (file .entry)) n groups at (marked (now (set .entry))) (now (state .exit))) ⌝ }
+    ensures kept { λ r. ⌜ (r ≡ true → Ready (now (file .entry)) n groups at (marked (now (set .entry))) (now (state .exit))) ⌝ }
 {
     words::clear_row(state, 0, 2 + 2 * n);
     for g in 0..groups {
