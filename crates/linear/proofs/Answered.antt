@@ -142,15 +142,16 @@ module _ (file : List ℕ) (n prime long at : ℕ) (well : Well file n prime lon
       turned true = refl
       turned false = refl
 
-  -- the row x depends on the set without y just where it depends on the set and the functional of y is 0 at it
+  -- x can take the place of y just where it can be added, or the functional of y is not 0 at its row
   pub exchanges :
       (state : List ℕ) (x y : ℕ) → Ready file n prime long at s state → x < n → s x ≡ false → y < n → s y ≡ true →
-      (eqb (flag state x) 0 || not (eqb (dot long (functional state y) (number file long at x) % prime) 0)) ≡ allows file n prime long at (with (without s y) x)
+      (allows file n prime long at (with s x) || not (eqb (dot long (functional state y) (number file long at x) % prime) 0))
+      ≡ allows file n prime long at (with (without s y) x)
   unfolding allows rows
   exchanges state x y ready l out k i =
       let e = free-exchanges n (span file n prime long at) (span-closure file n prime long at well) s y x l out (ready .allowed) in
-      let f = ready .spans x l in
-      ap (λ v. eqb v 0 || not zero-there) f ∙ turned (span file n prime long at s x) zero-there (span file n prime long at (without s y) x) whole there back ∙ sym e
+      let f = free-adds n (span file n prime long at) (span-closure file n prime long at well) s x l out (ready .allowed) in
+      ap (λ v. v || not zero-there) f ∙ turned (span file n prime long at s x) zero-there (span file n prime long at (without s y) x) whole there back ∙ sym e
     where
       value : ℕ
       value = dot long (functional state y) (rows x)
@@ -158,7 +159,7 @@ module _ (file : List ℕ) (n prime long at : ℕ) (well : Well file n prime lon
       zero-there : Bool
       zero-there = eqb (value % prime) 0
 
-      turned : (a z b : Bool) → (b ≡ true → a ≡ true) → (b ≡ true → z ≡ true) → (a ≡ true → z ≡ true → b ≡ true) → (eqb (pick a 1 0) 0 || not z) ≡ not b
+      turned : (a z b : Bool) → (b ≡ true → a ≡ true) → (b ≡ true → z ≡ true) → (a ≡ true → z ≡ true → b ≡ true) → (not a || not z) ≡ not b
       turned true true b f g h = ap not (sym (h refl refl))
       turned true false b f g h = grind arith
       turned false z b f g h = grind arith

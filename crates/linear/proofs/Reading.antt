@@ -214,7 +214,7 @@ module _ (file : List ℕ) (n p : ℕ) where
       (λ b. rw (b .1) (no-prime l (λ g. both-ways (small-prime prime) (not-true (small-prime prime) (b .0)) (prime-passes prime (g .0) (g .1))), λ f k. at-prime l f k))
       (λ b. let is-prime = passes-prime prime (not-false (small-prime prime) (b .0)) in
       ⊎-elim
-      (λ c. let m : length file ≤ p + 1 = leb-true (length file) (p + 1) (c .0) in rw (c .1) (short (omega arith), λ f k. at-header m is-prime f k))
+      (λ c. let m : length file ≤ p + 1 = leb-true (length file) (p + 1) (c .0) in rw (c .1) (short (one-byte m), λ f k. at-header m is-prime f k))
       (λ c. let m : p + 1 < length file = leb-false (length file) (p + 1) (c .0) in
       ⊎-elim
       (λ d. rw (d .1) (bad-length m (λ g. both-ways (good-length long) (not-true (good-length long) (d .0)) (length-passes long (g .0) (g .1))), λ f k. at-length m is-prime f k))
@@ -228,6 +228,9 @@ module _ (file : List ℕ) (n p : ℕ) where
       (stopped (not (small-prime prime)) (Row p) _ e (a .1)))
       (stopped (leb (length file) p) (Length Offers (length file)) _ e h)
     where
+      one-byte : length file ≤ p + 1 → length file < end file n p
+      one-byte m = omega arith
+
       at-once : length file ≤ p → (f : Refusal) → Fault file n p f → Precedes (Length Offers (length file)) f
       at-once l _ (short k) = inr (refl, omega arith)
       at-once l _ (no-prime k m) = absurd (omega arith)

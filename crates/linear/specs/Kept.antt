@@ -4,7 +4,7 @@ use mathlib.Core.Bool.{Bool, true, false}
 use mathlib.Core.List.{List}
 use Prim.Native.Nat.{ℕ, zero, suc, _+_, _-_, _*_, _%_, _≤_, _<_}
 use lib.Dec.{eqb}
-use lib.ListN.{getD}
+use lib.ListN.{length, getD}
 use Rattle.sets.specs.Matroid.{Set, pick, weight}
 use Rattle.linear.specs.Rows.{number, span, allows}
 
@@ -38,6 +38,7 @@ flag state x = getD state (65 * x + 64) 0
 
 -- the state is right for the set s, and s is allowed
 pub record Ready (file : List ℕ) (n prime long at : ℕ) (s : Set) (state : List ℕ) : Type 0 where
+  pub fits : kept-length n ≤ length state
   pub dual : Dual prime long (number file long at) (functional state) n s
   pub spans : (x : ℕ) → x < n → flag state x ≡ pick (span file n prime long at s x) 1 0
   pub allowed : allows file n prime long at s ≡ true

@@ -96,7 +96,7 @@ pub fn independent(
 ) -> bool
     requires well { ⌜ Well (now file) n prime len at ⌝ ∗ ⌜ n ≤ 600 ⌝ }
     requires room { ⌜ row-words n ≤ length (now set) ⌝ ∗ ⌜ kept-length n ≤ length (now state) ⌝ }
-    ensures answer { λ r. ⌜ r ≡ allows (now (file .entry)) n prime len at (marked (now (set .entry))) ⌝ }
+    ensures answers { λ r. ⌜ r ≡ allows (now (file .entry)) n prime len at (marked (now (set .entry))) ⌝ }
     ensures ready { λ r. ⌜ (r ≡ true → Ready (now (file .entry)) n prime len at (marked (now (set .entry))) (now (state .exit))) ⌝ }
 {
     for x in 0..n {
@@ -120,7 +120,6 @@ pub fn can_add(
     x: usize,
 ) -> bool
     requires well { ⌜ Well (now file) n prime len at ⌝ ∗ ⌜ n ≤ 600 ⌝ }
-    requires room { ⌜ row-words n ≤ length (now set) ⌝ ∗ ⌜ kept-length n ≤ length (now state) ⌝ }
     requires ready { ⌜ Ready (now file) n prime len at (marked (now set)) (now state) ⌝ }
     requires outside { ⌜ x < n ⌝ ∗ ⌜ marked (now set) x ≡ false ⌝ }
     ensures { λ r. ⌜ r ≡ allows (now (file .entry)) n prime len at (with (marked (now (set .entry))) x) ⌝ }
@@ -141,11 +140,11 @@ pub fn can_exchange(
     y: usize,
 ) -> bool
     requires well { ⌜ Well (now file) n prime len at ⌝ ∗ ⌜ n ≤ 600 ⌝ }
-    requires room { ⌜ row-words n ≤ length (now set) ⌝ ∗ ⌜ kept-length n ≤ length (now state) ⌝ }
     requires ready { ⌜ Ready (now file) n prime len at (marked (now set)) (now state) ⌝ }
     requires outside { ⌜ x < n ⌝ ∗ ⌜ marked (now set) x ≡ false ⌝ }
     requires inside { ⌜ y < n ⌝ ∗ ⌜ marked (now set) y ≡ true ⌝ }
     ensures { λ r. ⌜ r ≡ allows (now (file .entry)) n prime len at (with (without (marked (now (set .entry))) y) x) ⌝ }
 {
-    state[65 * x + 64] == 0 || value(file, n, prime, len, at, state, y, x) != 0
+    can_add(file, n, prime, len, at, set, state, x)
+        || value(file, n, prime, len, at, state, y, x) != 0
 }

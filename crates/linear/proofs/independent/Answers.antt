@@ -28,7 +28,7 @@ pub returns : need.returns
 returns c =
     let allowed = dual-allows (c .args .file .now) (c .args .n) (c .args .prime) (c .args .len) (c .args .at) (c .pre .well .0) (marked (c .args .set .now))
     (functional (c .note-spanned .last .state)) (c .note-spanned .ensures .dual) in
-    record { answer = sym allowed; ready = λ _. record { dual = c .note-spanned .ensures .dual; spans = c .note-spanned .ensures .flags; allowed = allowed } }
+    record { answers = sym allowed; ready = λ _. record { fits = omega arith; dual = c .note-spanned .ensures .dual; spans = c .note-spanned .ensures .flags; allowed = allowed } }
 
 pub returns-then-not-insert : need.returns-then-not-insert
 returns-then-not-insert c =
@@ -36,7 +36,7 @@ returns-then-not-insert c =
     let t : spanned (c .args .prime) (c .args .len) (number (c .args .file .now) (c .args .len) (c .args .at)) s (c .loop-x .x) (number (c .args .file .now) (c .args .len) (c .args .at) (c .loop-x .x)) ≡ true =
     not-false _ (sym (c .insert .ensures .answer) ∙ c .if-not-insert .taken) in
     record {
-      answer =
+      answers =
           sym (spanned-refuses (c .args .file .now) (c .args .n) (c .args .prime) (c .args .len) (c .args .at) (c .pre .well .0) s (c .loop-x .x) (omega arith)
           (sym (c .chosen .ensures) ∙ c .if-chosen .taken) t);
       ready = λ h. absurd (false≢true h);
