@@ -1,1 +1,3 @@
-// (empty)
+// Augmenting paths between two matroids.
+pub mod examples;
+pub mod theory;

@@ -1,1 +1,4 @@
+pub mod Converses
+pub mod Examples
 pub mod Next
+pub mod Steps

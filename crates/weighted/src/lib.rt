@@ -1,1 +1,3 @@
-// (empty)
+// Heaviest sets of every size for two matroids.
+pub mod examples;
+pub mod theory;

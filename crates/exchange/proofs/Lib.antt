@@ -1,0 +1,14 @@
+pub mod Along
+pub mod BestPaths
+pub mod Chains
+pub mod Cuts
+pub mod Cycles
+pub mod DualSets
+pub mod Growing
+pub mod LabelPaths
+pub mod Needed
+pub mod Settling
+pub mod Shortcuts
+pub mod Shorten
+pub mod ShortestLabels
+pub mod SmallPaths
