@@ -5,7 +5,7 @@ pub mod Cuts
 pub mod Cycles
 pub mod DualSets
 pub mod LabelPaths
-pub mod LeadingSets
+pub mod LeadingExists
 pub mod Needed
 pub mod Settling
 pub mod Shortcuts
