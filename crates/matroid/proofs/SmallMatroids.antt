@@ -1,35 +1,34 @@
 -- The theorems at two small matroids on three elements.
-use mathlib.Core.Path.{_≡_, refl, sym, _∙_, subst}
-use mathlib.Core.Logic.{_⊎_, inl, inr, ⊎-elim}
-use mathlib.Core.Bool.{Bool, true, false, _&&_, _||_, not}
-use Prim.Native.Nat.{ℕ, zero, suc, _+_, _≤_, _<_}
+use mathlib.Core.Path.{_≡_, refl, sym, subst}
+use mathlib.Core.Logic.{⊎-elim}
+use mathlib.Core.Bool.{true, false, _&&_, not}
+use Prim.Native.Nat.{ℕ, zero, suc, _≤_, _<_}
 use native.Mathlib.Omega.{arith}
-use lib.Dec.{eqb, ltb}
-use lib.IntN.{ℤ, pos, _+ℤ_}
+use lib.Dec.{eqb}
+use lib.IntN.{pos, _+ℤ_}
 use lib.Signed.{_≤ℤ_}
 use Rattle.std.proofs.shelf.Signed.{ints}
-use Rattle.std.proofs.shelf.Tests.{both-ways}
-use Rattle.sets.specs.Matroid.{pick, Set, size, weight, without, with, none, Within, Matroid}
-use Rattle.sets.specs.Closure.{Closure, free}
+use Rattle.sets.specs.Matroid.{Set, size, without, with, none, Matroid}
+use Rattle.sets.specs.Closure.{Closure}
 use Rattle.sets.proofs.FiniteSets.{look-up}
 use Rattle.sets.proofs.MatroidLaws.{matroid}
 use Rattle.sets.proofs.ClosureTheorem.{closure-matroid}
 use Rattle.matroid.specs.Optimal.{Dual, Split, Signed-split}
-use Rattle.matroid.specs.Exchanges.{exchanged, Tight, Made}
+use Rattle.matroid.specs.Exchanges.{Tight}
 use Rattle.matroid.specs.Examples.{left, right, price, middle, outer, lower, Small-matroids, Small-largest, Small-heaviest, plus, minus, Small-signed, level, Small-exchange, Small-gains, any, Small-closure}
 use Rattle.matroid.proofs.Optimality.{largest, heaviest, heaviest-signed, exchanges-suffice}
 use Rattle.matroid.proofs.TightExchanges.{tight-exchanges-and-one}
 use Rattle.matroid.proofs.Gains.{gains-never-rise}
 
 -- what holds at 0, 1 and 2 holds below 3
-below-three : (P : ℕ → Type 0) → P 0 → P 1 → P 2 → (x : ℕ) → x < 3 → P x
+pub below-three : (P : ℕ → Type 0) → P 0 → P 1 → P 2 → (x : ℕ) → x < 3 → P x
 below-three P a b c zero h = a
 below-three P a b c (suc zero) h = b
 below-three P a b c (suc (suc zero)) h = c
 below-three P a b c (suc (suc (suc x))) h = absurd (omega arith)
 
 -- the two tests have the laws of a matroid
-left-matroid : Matroid 3 left
+pub left-matroid : Matroid 3 left
 left-matroid =
     matroid 3 left refl
     (λ s t h e. let a : s 0 ≡ true → t 0 ≡ true = h 0 (omega arith) in let b : s 1 ≡ true → t 1 ≡ true = h 1 (omega arith) in grind arith)
@@ -117,7 +116,7 @@ pub small-signed : Small-signed
 small-signed = (small-signed-split, λ t e d h. heaviest-signed 3 left right price plus minus outer t left-matroid right-matroid small-signed-split e d h)
 
 -- the tight exchange, and what it makes
-small-tight : Tight 3 left level middle (λ i. 1) (λ i. 0) 1 (λ i. i)
+pub small-tight : Tight 3 left level middle (λ i. 1) (λ i. 0) 1 (λ i. i)
 small-tight =
     record {
       pairs = record { allowed = refl; full = λ i p. refl; single = λ i p. refl };

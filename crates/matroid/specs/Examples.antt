@@ -2,13 +2,13 @@
 -- whose proofs are owed by the functions that name them.
 use mathlib.Core.Path.{_≡_}
 use mathlib.Core.Bool.{Bool, true, false, _&&_, _||_, not}
-use Prim.Native.Nat.{ℕ, zero, suc, _+_, _≤_}
-use lib.Dec.{eqb}
+use Prim.Native.Nat.{ℕ, zero, suc, _+_, _≤_, _<_}
+use lib.Dec.{eqb, leb}
 use lib.IntN.{ℤ, pos, negsuc}
-use Rattle.sets.specs.Matroid.{Set, size, weight, without, with, none, Matroid}
+use Rattle.sets.specs.Matroid.{Set, size, weight, without, with, Within, Matroid}
 use Rattle.sets.specs.Closure.{Closure, free}
-use Rattle.matroid.specs.Optimal.{Dual, Split, Signed-split}
-use Rattle.matroid.specs.Exchanges.{exchanged, Tight, Made}
+use Rattle.matroid.specs.Optimal.{Dual, Best, Split, Signed-split}
+use Rattle.matroid.specs.Exchanges.{exchanged, Pairs, Tight, Made}
 
 -- not both of 0 and 1, and not both of 1 and 2
 abbrev pub left : Set → Bool
@@ -83,3 +83,34 @@ any s x = s 0 || s 1 || s 2
 
 abbrev pub Small-closure : Type 0
 Small-closure = Closure 3 any × Matroid 3 (free 3 any) × (free 3 any middle ≡ true) × (free 3 any outer ≡ false)
+
+-- one matroid: 1 can be filled up from 0 and 2; 1 can come where 2 stays; 0 and 2 weigh by the levels as much as 1 and 2,
+-- which are a best set, and so are best too; 2 goes with 0 as it goes with 1
+abbrev pub upper : Set
+upper x = eqb x 1 || eqb x 2
+
+abbrev pub Small-steps : Type 0
+Small-steps =
+    ((r : Set) × (left r ≡ true) × Within 3 middle r × (size 3 r ≡ 2)) ×
+    ((y : ℕ) × (y < 3) × (outer y ≡ true) × (eqb y 2 ≡ false) × (left (with (without outer y) 1) ≡ true)) ×
+    ((t : Set) → left t ≡ true → size 3 t ≡ 2 → weight 3 level t ≤ 3) ×
+    Best 3 left level outer ×
+    (left (with (with (without middle 1) 0) 2) ≡ true)
+
+-- on four elements: at most two, and not both of 0 and 2
+abbrev pub twins : Set → Bool
+twins s = not (s 0 && s 2) && leb (size 4 s) 2
+
+-- where 0 and 1 are chosen, 3 comes for 1 and 2 for 0, in this order: 3 could come for 0 too
+abbrev pub goes : ℕ → ℕ
+goes zero = 1
+goes (suc i) = 0
+
+abbrev pub comes : ℕ → ℕ
+comes zero = 3
+comes (suc i) = 2
+
+abbrev pub Small-pairs : Type 0
+Small-pairs =
+    Matroid 4 twins × Pairs 4 twins lower goes comes 2 × (twins (with (without lower 0) 3) ≡ true) ×
+    (twins (exchanged lower goes comes 2) ≡ true) × (size 4 (exchanged lower goes comes 2) ≡ 2)
