@@ -4,8 +4,8 @@ pub mod Chains
 pub mod Cuts
 pub mod Cycles
 pub mod DualSets
-pub mod Growing
 pub mod LabelPaths
+pub mod LeadingExists
 pub mod Needed
 pub mod Settling
 pub mod Shortcuts

@@ -33,13 +33,13 @@ complete n to c source settled reached d k back h all = record {
 }
 
 -- the order of labels, over plain numbers
-before-trans : (d k e l f m : ℕ) → Before d k e l ≡ true → Before e l f m ≡ true → Before d k f m ≡ true
+pub before-trans : (d k e l f m : ℕ) → Before d k e l ≡ true → Before e l f m ≡ true → Before d k f m ≡ true
 before-trans d k e l f m p q = grind arith
 
 before-more : (d k c : ℕ) → Before d k (d + c) (k + 1) ≡ true
 before-more d k c = grind arith
 
-before-refl : (v m : ℕ) (d k : ℕ → ℕ) → v ≡ m → Before (d v) (k v) (d m) (k m) ≡ true
+pub before-refl : (v m : ℕ) (d k : ℕ → ℕ) → v ≡ m → Before (d v) (k v) (d m) (k m) ≡ true
 before-refl v m d k s = grind arith
 
 before-at : (d k e l f m : ℕ) → e ≡ d → l ≡ k → Before d k f m ≡ true → Before e l f m ≡ true
@@ -51,7 +51,7 @@ before-onto d k e l f m p q h = grind arith
 before-same : (d k e l : ℕ) → e ≡ d → l ≡ k → Before e l d k ≡ true
 before-same d k e l p q = grind arith
 
-before-other : (d k e l : ℕ) → Before d k e l ≡ false → Before e l d k ≡ true
+pub before-other : (d k e l : ℕ) → Before d k e l ≡ false → Before e l d k ≡ true
 before-other d k e l h = grind arith
 
 before-to : (d k e l f m c : ℕ) → f ≡ e → m ≡ l → Before d k (e + c) (l + 1) ≡ true → Before d k (f + c) (m + 1) ≡ true

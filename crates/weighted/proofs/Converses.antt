@@ -10,7 +10,7 @@ use Rattle.matroid.proofs.Optimality.{largest, split-sum}
 use Rattle.exchange.specs.Round.{top, State, lost, toggled}
 use Rattle.exchange.specs.Paths.{Augmenting}
 use Rattle.exchange.proofs.DualSets.{dual-by-no-path}
-use Rattle.exchange.proofs.Growing.{leading-exists}
+use Rattle.exchange.proofs.LeadingExists.{leading-exists}
 use Rattle.exchange.proofs.LabelPaths.{path-reached}
 use Rattle.weighted.specs.Converses.{Heaviest-splits, Paths-augment, No-path-largest}
 use Rattle.weighted.proofs.Existence.{states-exist, end-exists}

@@ -10,7 +10,7 @@ use Rattle.sets.specs.Matroid.{pick, Set, size, with, none, Within}
 use Rattle.sets.proofs.FiniteSets.{least, look-up, size-with, part-as-large}
 use Rattle.exchange.specs.Round.{Before}
 use Rattle.exchange.specs.Graph.{arc, addable, cost, Shortest, bettered, Least}
-use Rattle.exchange.proofs.Growing.{size-all}
+use Rattle.exchange.proofs.LeadingExists.{size-all}
 use Rattle.exchange.proofs.Settling.{Going, complete, turn}
 use Rattle.exchange.proofs.ShortestLabels.{labels-of-shortest}
 use Rattle.weighted.specs.Steps.{Labels-exist}

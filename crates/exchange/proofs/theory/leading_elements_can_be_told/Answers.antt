@@ -1,5 +1,5 @@
 use Rattle.exchange.proofs.theory.leading_elements_can_be_told.Needs as need
-use Rattle.exchange.proofs.Growing.{leading-exists}
+use Rattle.exchange.proofs.LeadingExists.{leading-exists}
 
 -- the elements that lead to a sink can be told
 pub returns : need.returns
