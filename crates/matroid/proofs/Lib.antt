@@ -5,3 +5,9 @@ pub mod Optimality
 pub mod SmallExchanges
 pub mod SmallMatroids
 pub mod TightExchanges
+pub mod Stages
+pub mod WeightReading
+pub mod RuleReading
+pub mod KindLaws
+pub mod RulePlaces
+pub mod FileReading
