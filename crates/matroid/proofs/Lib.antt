@@ -11,3 +11,4 @@ pub mod RuleReading
 pub mod KindLaws
 pub mod RulePlaces
 pub mod FileReading
+pub mod RuleLaws

@@ -10,6 +10,7 @@ ghost use Rattle.matroid.specs.Problem.{rule-end};
 ghost use Rattle.matroid.specs.Rules.{allows, Well, Ready, kept-length};
 
 pub mod examples;
+pub mod laws;
 pub mod problem;
 pub mod theory;
 
