@@ -37,8 +37,8 @@ pub fn rules_are_matroids() -> u8
     0
 }
 
-// The test of a rule says what its kind says in words.
-pub fn the_test_is_what_the_rule_says() -> u8
+// A rule allows what its kind allows in words.
+pub fn rules_allow_what_they_say() -> u8
     ensures { λ _. ⌜ Rules-natural ⌝ }
 {
     0
