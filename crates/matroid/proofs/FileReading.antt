@@ -68,7 +68,7 @@ module _ (file : List ℕ) (long : 2 ≤ length file) (some : 1 ≤ offers file)
   end-located f k = let q : place f ≡ end-of file = ap place (k .3) in inr (omega arith, omega (arith, k .2), omega (arith, k .2))
 
   second-located : (f : Refusal) → Second-fault f → Located file (second-at file) (end-of file) f
-  second-located f k = rule-located file n (second-at file) some f (k .1)
+  second-located f k = rule-located file n (second-at file) f (k .1)
 
   later-located : (f : Refusal) → Second-fault f ⊎ End-fault f → Located file (second-at file) far f
   later-located f k =
@@ -80,7 +80,7 @@ module _ (file : List ℕ) (long : 2 ≤ length file) (some : 1 ≤ offers file)
   rules-located f k =
       let d = end-past file n p in
       let e = end-past file n (second-at file) in
-      ⊎-elim (λ (x : Rule-fault file n p f). longer file _ _ _ _ f (omega arith) (omega arith) (rule-located file n p some f x))
+      ⊎-elim (λ (x : Rule-fault file n p f). longer file _ _ _ _ f (omega arith) (omega arith) (rule-located file n p f x))
       (λ (x : Second-fault f ⊎ End-fault f). longer file _ _ _ _ f (omega arith) (omega arith) (later-located f x)) k
 
   -- behind both rules
@@ -113,7 +113,7 @@ module _ (file : List ℕ) (long : 2 ≤ length file) (some : 1 ≤ offers file)
       let e = ends-there file n p x g in
       reworded (Rule-fault file n (rule-end n x)) Second-fault (Stands file n (rule-end n x)) (Stands file n (rule-end n x))
       (λ f d. (kind-known file n p x g, subst (λ (z : ℕ). Rule-fault file n z f) e d))
-      (λ f d. subst (λ (z : ℕ). Rule-fault file n z f) (sym e) (d .1)) (λ y d. d) (λ y d. d) (rule-sound file n (rule-end n x) some)
+      (λ f d. subst (λ (z : ℕ). Rule-fault file n z f) (sym e) (d .1)) (λ y d. d) (λ y d. d) (rule-sound file n (rule-end n x))
 
   -- what is behind the first rule, both rules, and all that follows the number of offers
   later-sound : (x : Rule) → Stands file n p x →
@@ -129,8 +129,8 @@ module _ (file : List ℕ) (long : 2 ≤ length file) (some : 1 ≤ offers file)
       (λ z. (x : Rule) × Stands file n p x × ((y : Rule) × Stands file n (rule-end n x) y × End-good x y z))
   rules-sound =
       in-turn file p (second-at file) far (Rule-fault file n p) (λ f. Second-fault f ⊎ End-fault f) (Stands file n p)
-      (λ x z. (y : Rule) × Stands file n (rule-end n x) y × End-good x y z) (rule-located file n p some) later-located
-      (λ x. and-then (read-rule file n (rule-end n x)) (λ y. read-end file n x y)) later-sound (read-rule file n p) (rule-sound file n p some)
+      (λ x z. (y : Rule) × Stands file n (rule-end n x) y × End-good x y z) (rule-located file n p) later-located
+      (λ x. and-then (read-rule file n (rule-end n x)) (λ y. read-end file n x y)) later-sound (read-rule file n p) (rule-sound file n p)
 
   abbrev All-fault : Refusal → Type 0
   All-fault f = Weights-fault file n 2 f ⊎ (Rule-fault file n p f ⊎ (Second-fault f ⊎ End-fault f))
@@ -209,7 +209,7 @@ short-only file s f (first a b x) =
     ⊎-elim (λ (y : (f ≡ Length Offers (length file)) × (length file < end-at file (offers file) (rules-at (offers file)))). y .0)
     (λ (y : (rules-at (offers file) ≤ place f) × (place f < end-at file (offers file) (rules-at (offers file))) × (place f < length file)).
     absurd (omega (arith, y .0, y .2)))
-    (rule-located file (offers file) (rules-at (offers file)) a f x)
+    (rule-located file (offers file) (rules-at (offers file)) f x)
 short-only file s f (second a b k x) = absurd (omega (arith, k .0))
 short-only file s _ (too-long a b k m l) = absurd (omega (arith, k .0))
 

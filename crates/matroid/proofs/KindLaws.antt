@@ -38,7 +38,7 @@ Links-good file n p towns = (p + 2 ≤ length file) × (towns ≡ le2 file p) ×
 abbrev pub Rows-good : List ℕ → ℕ → ℕ → Shape → Type 0
 Rows-good file n p shape = (p + 2 ≤ length file) × (shape ≡ linear.shape-at file p) × rows-spec.Well file n (shape .prime) (shape .len) (p + 2)
 
-module _ (file : List ℕ) (n p : ℕ) (pos : 0 < n) where
+module _ (file : List ℕ) (n p : ℕ) where
   pub limits-sound : Sound ℕ (laminar.read file n p) (laminar.Fault file n p) (Limits-good file n p)
   limits-sound =
       record {

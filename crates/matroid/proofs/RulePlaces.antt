@@ -43,17 +43,17 @@ wider file p a b f e w =
     (λ (x : (p + 1 ≤ place f) × (place f < a) × (place f < length file)). inr (omega (arith, x .0), omega (arith, x .1), x .2)) w
 
 -- where the faults of a rule are
-pub rule-located : (file : List ℕ) (n p : ℕ) → 0 < n → (f : Refusal) → Rule-fault file n p f → Located file p (end-at file n p) f
-rule-located file n p pos _ (no-kind h) = let e = end-past file n p in inl (refl, omega arith)
-rule-located file n p pos _ (unknown h i) = let e = end-past file n p in inr (omega arith, omega arith, omega arith)
-rule-located file n p pos f (limits h i w) =
-    wider file p (laminar.end file n (p + 1)) _ f (sym (ap (end-kind file n p) i)) (limits-located file n (p + 1) pos f w)
-rule-located file n p pos f (volunteers h i w) =
-    wider file p (transversal.end file n (p + 1)) _ f (sym (ap (end-kind file n p) i)) (volunteers-located file n (p + 1) pos f w)
-rule-located file n p pos f (links h i w) =
-    wider file p (graphic.end file n (p + 1)) _ f (sym (ap (end-kind file n p) i)) (links-located file n (p + 1) pos f w)
-rule-located file n p pos f (rows h i w) =
-    wider file p (linear.end file n (p + 1)) _ f (sym (ap (end-kind file n p) i)) (rows-located file n (p + 1) pos f w)
+pub rule-located : (file : List ℕ) (n p : ℕ) → (f : Refusal) → Rule-fault file n p f → Located file p (end-at file n p) f
+rule-located file n p _ (no-kind h) = let e = end-past file n p in inl (refl, omega arith)
+rule-located file n p _ (unknown h i) = let e = end-past file n p in inr (omega arith, omega arith, omega arith)
+rule-located file n p f (limits h i w) =
+    wider file p (laminar.end file n (p + 1)) _ f (sym (ap (end-kind file n p) i)) (limits-located file n (p + 1) f w)
+rule-located file n p f (volunteers h i w) =
+    wider file p (transversal.end file n (p + 1)) _ f (sym (ap (end-kind file n p) i)) (volunteers-located file n (p + 1) f w)
+rule-located file n p f (links h i w) =
+    wider file p (graphic.end file n (p + 1)) _ f (sym (ap (end-kind file n p) i)) (links-located file n (p + 1) f w)
+rule-located file n p f (rows h i w) =
+    wider file p (linear.end file n (p + 1)) _ f (sym (ap (end-kind file n p) i)) (rows-located file n (p + 1) f w)
 
 -- a rule that stands in the file ends where its header says
 pub ends-there : (file : List ℕ) (n p : ℕ) (x : Rule) → Stands file n p x → rule-end n x ≡ end-at file n p
@@ -89,5 +89,5 @@ kind-known file n p (Links c at) g = (omega (arith, g .0), omega (arith, g .1), 
 kind-known file n p (Rows c d at) g = (omega (arith, g .0), omega (arith, g .1), omega (arith, g .1))
 
 -- a rule that was read ends within the file
-pub read-within : (file : List ℕ) (n p : ℕ) (x : Rule) → 0 < n → Ok x ≡ read-rule file n p → rule-end n x ≤ length file
-read-within file n p x pos h = ends-within file n p x (rule-sound file n p pos .ok-good x (sym h))
+pub read-within : (file : List ℕ) (n p : ℕ) (x : Rule) → Ok x ≡ read-rule file n p → rule-end n x ≤ length file
+read-within file n p x h = ends-within file n p x (rule-sound file n p .ok-good x (sym h))

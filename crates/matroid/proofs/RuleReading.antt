@@ -127,11 +127,11 @@ there file n p (Links c at) g = omega (arith, g .0)
 there file n p (Rows c d at) g = omega (arith, g .0)
 
 -- the four kinds
-limits-rule : (file : List ℕ) (n p : ℕ) → 0 < n → p < length file → getD file p 0 ≡ 1 →
+limits-rule : (file : List ℕ) (n p : ℕ) → p < length file → getD file p 0 ≡ 1 →
     Sound Rule (and-then (laminar.read file n (p + 1)) (λ c. Ok (Limits c (p + 2)))) (Rule-fault file n p) (Stands file n p)
-limits-rule file n p pos l k =
+limits-rule file n p l k =
     of-kind file n p 1 l k (laminar.read file n (p + 1)) (laminar.Fault file n (p + 1)) (Limits-good file n (p + 1)) (λ c. Limits c (p + 2))
-    (limits-sound file n (p + 1) pos) stands back (λ f w. limits l k w) (λ f w. by-kind file n p f l w .0 k)
+    (limits-sound file n (p + 1)) stands back (λ f w. limits l k w) (λ f w. by-kind file n p f l w .0 k)
   where
     stands : (c : ℕ) → Limits-good file n (p + 1) c → Stands file n p (Limits c (p + 2))
     stands c g = let q : p + 1 + 1 ≡ p + 2 = omega arith in (omega (arith, g .0), k, g .1, refl, rw q at (g .2))
@@ -142,11 +142,11 @@ limits-rule file n p pos l k =
     back (Links c at) g = absurd (omega (arith, g .1))
     back (Rows c d at) g = absurd (omega (arith, g .1))
 
-volunteers-rule : (file : List ℕ) (n p : ℕ) → 0 < n → p < length file → getD file p 0 ≡ 2 →
+volunteers-rule : (file : List ℕ) (n p : ℕ) → p < length file → getD file p 0 ≡ 2 →
     Sound Rule (and-then (transversal.read file n (p + 1)) (λ c. Ok (Volunteers c (p + 3)))) (Rule-fault file n p) (Stands file n p)
-volunteers-rule file n p pos l k =
+volunteers-rule file n p l k =
     of-kind file n p 2 l k (transversal.read file n (p + 1)) (transversal.Fault file n (p + 1)) (Volunteers-good file n (p + 1)) (λ c. Volunteers c (p + 3))
-    (volunteers-sound file n (p + 1) pos) stands back (λ f w. volunteers l k w) (λ f w. by-kind file n p f l w .1 k)
+    (volunteers-sound file n (p + 1)) stands back (λ f w. volunteers l k w) (λ f w. by-kind file n p f l w .1 k)
   where
     stands : (c : ℕ) → Volunteers-good file n (p + 1) c → Stands file n p (Volunteers c (p + 3))
     stands c g = let q : p + 1 + 2 ≡ p + 3 = omega arith in (omega (arith, g .0), k, g .1, refl, rw q at (g .2))
@@ -157,11 +157,11 @@ volunteers-rule file n p pos l k =
     back (Links c at) g = absurd (omega (arith, g .1))
     back (Rows c d at) g = absurd (omega (arith, g .1))
 
-links-rule : (file : List ℕ) (n p : ℕ) → 0 < n → p < length file → getD file p 0 ≡ 3 →
+links-rule : (file : List ℕ) (n p : ℕ) → p < length file → getD file p 0 ≡ 3 →
     Sound Rule (and-then (graphic.read file n (p + 1)) (λ c. Ok (Links c (p + 3)))) (Rule-fault file n p) (Stands file n p)
-links-rule file n p pos l k =
+links-rule file n p l k =
     of-kind file n p 3 l k (graphic.read file n (p + 1)) (graphic.Fault file n (p + 1)) (Links-good file n (p + 1)) (λ c. Links c (p + 3))
-    (links-sound file n (p + 1) pos) stands back (λ f w. links l k w) (λ f w. by-kind file n p f l w .2 k)
+    (links-sound file n (p + 1)) stands back (λ f w. links l k w) (λ f w. by-kind file n p f l w .2 k)
   where
     stands : (c : ℕ) → Links-good file n (p + 1) c → Stands file n p (Links c (p + 3))
     stands c g = let q : p + 1 + 2 ≡ p + 3 = omega arith in (omega (arith, g .0), k, g .1, refl, rw q at (g .2))
@@ -172,11 +172,11 @@ links-rule file n p pos l k =
     back (Volunteers c at) g = absurd (omega (arith, g .1))
     back (Rows c d at) g = absurd (omega (arith, g .1))
 
-rows-rule : (file : List ℕ) (n p : ℕ) → 0 < n → p < length file → getD file p 0 ≡ 4 →
+rows-rule : (file : List ℕ) (n p : ℕ) → p < length file → getD file p 0 ≡ 4 →
     Sound Rule (and-then (linear.read file n (p + 1)) (λ c. Ok (Rows (c .prime) (c .len) (p + 3)))) (Rule-fault file n p) (Stands file n p)
-rows-rule file n p pos l k =
+rows-rule file n p l k =
     of-kind file n p 4 l k (linear.read file n (p + 1)) (linear.Fault file n (p + 1)) (Rows-good file n (p + 1)) (λ c. Rows (c .prime) (c .len) (p + 3))
-    (rows-sound file n (p + 1) pos) stands back (λ f w. rows l k w) (λ f w. by-kind file n p f l w .3 k)
+    (rows-sound file n (p + 1)) stands back (λ f w. rows l k w) (λ f w. by-kind file n p f l w .3 k)
   where
     stands : (c : Shape) → Rows-good file n (p + 1) c → Stands file n p (Rows (c .prime) (c .len) (p + 3))
     stands c g =
@@ -201,15 +201,15 @@ rows-rule file n p pos l k =
     back (Links c at) g = absurd (omega (arith, g .1))
 
 -- a rule of any kind is read exactly if it stands in the file, else its first fault is told
-pub rule-sound : (file : List ℕ) (n p : ℕ) → 0 < n → Sound Rule (read-rule file n p) (Rule-fault file n p) (Stands file n p)
-rule-sound file n p pos =
+pub rule-sound : (file : List ℕ) (n p : ℕ) → Sound Rule (read-rule file n p) (Rule-fault file n p) (Stands file n p)
+rule-sound file n p =
     tested (leb (length file) p) (Length Offers (length file)) _ _ _ (λ b. missing-first file n p (leb-true (length file) p b))
     (λ b x g. let l = leb-true (length file) p b in let t = there file n p x g in omega arith)
     (λ b.
     let l = leb-false (length file) p b in
     let k = getD file p 0 in
-    either-way (eqb k 1) _ _ _ _ (λ i. limits-rule file n p pos l (eqb-true k 1 i)) (λ i.
-    either-way (eqb k 2) _ _ _ _ (λ j. volunteers-rule file n p pos l (eqb-true k 2 j)) (λ j.
-    either-way (eqb k 3) _ _ _ _ (λ m. links-rule file n p pos l (eqb-true k 3 m)) (λ m.
-    either-way (eqb k 4) _ _ _ _ (λ o. rows-rule file n p pos l (eqb-true k 4 o)) (λ o.
+    either-way (eqb k 1) _ _ _ _ (λ i. limits-rule file n p l (eqb-true k 1 i)) (λ i.
+    either-way (eqb k 2) _ _ _ _ (λ j. volunteers-rule file n p l (eqb-true k 2 j)) (λ j.
+    either-way (eqb k 3) _ _ _ _ (λ m. links-rule file n p l (eqb-true k 3 m)) (λ m.
+    either-way (eqb k 4) _ _ _ _ (λ o. rows-rule file n p l (eqb-true k 4 o)) (λ o.
     unknown-sound file n p l (no-other k (eqb-false k 1 i) (eqb-false k 2 j) (eqb-false k 3 m) (eqb-false k 4 o)))))))

@@ -6,5 +6,5 @@ use Rattle.matroid.proofs.problem.read_rules.Needs as need
 pub read-second-requires : need.read-second-requires
 read-second-requires c κs = (
   omega arith,
-  (omega arith, read-within (c .args .file .now) (c .args .n) _ (c .in-Continue-first .first) (omega arith) (c .in-Continue-first .ensures tt)),
+  (omega arith, read-within (c .args .file .now) (c .args .n) _ (c .in-Continue-first .first) (c .in-Continue-first .ensures tt)),
 )

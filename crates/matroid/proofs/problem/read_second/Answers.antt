@@ -5,5 +5,5 @@ use Rattle.matroid.proofs.problem.read_second.Needs as need
 
 pub end-end-requires : need.end-end-requires
 end-end-requires c κs =
-    let w = read-within (c .args .file .now) (c .args .n) _ (c .in-Continue-second .second) (omega arith) (c .in-Continue-second .ensures tt) in
+    let w = read-within (c .args .file .now) (c .args .n) _ (c .in-Continue-second .second) (c .in-Continue-second .ensures tt) in
     (omega arith, omega arith)
