@@ -66,7 +66,8 @@ pub fn can_add(
     requires kept { ⌜ Ready (now file) n volunteers at (marked (now set)) (now state) ⌝ }
     ensures { λ r. ⌜ r ≡ allows (now (file .entry)) n volunteers at (with (marked (now (set .entry))) x) ⌝ }
 {
-    contains(state, n * ((n + 31) / 32), x)
+    let free_row = n * ((n + 31) / 32);
+    contains(state, free_row, x)
 }
 
 // Is the set with x in place of y allowed?
@@ -85,7 +86,8 @@ pub fn can_exchange(
     requires kept { ⌜ Ready (now file) n volunteers at (marked (now set)) (now state) ⌝ }
     ensures { λ r. ⌜ r ≡ allows (now (file .entry)) n volunteers at (with (without (marked (now (set .entry))) y) x) ⌝ }
 {
-    contains(state, n * ((n + 31) / 32), x) || contains(state, y * ((n + 31) / 32), x)
+    let width = (n + 31) / 32;
+    contains(state, n * width, x) || contains(state, y * width, x)
 }
 
 // A set passes the test just where each of its offers has a volunteer of its own.
