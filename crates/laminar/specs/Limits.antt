@@ -34,7 +34,7 @@ abbrev pub fits : ℕ → (ℕ → Set) → (ℕ → ℕ) → ℕ → Set → Bo
 fits n group most zero s = true
 fits n group most (suc m) s = leb (size n (both (group m) s)) (most m) && fits n group most m s
 
--- the same as a test
+-- Allowed as a test
 abbrev pub allows : List ℕ → ℕ → ℕ → ℕ → Set → Bool
 allows file n groups at s = fits n (in-group file n at) (limit file n at) groups s
 

@@ -20,11 +20,11 @@ loop-g-holds c =
 
 pub count-group-held-requires : need.count-group-held-requires
 count-group-held-requires c κs =
-    omega (arith, ends-before (c .args .n) (c .args .at) (c .loop-g .g) (c .args .groups) (c .loop-g-test .taken), c .pre .rule .1 .whole)
+    omega (arith, ends-before (c .args .n) (c .args .at) (c .loop-g .g) (c .args .groups) (c .loop-g-test .taken), c .pre .well .0 .whole)
 
 pub limit-most-requires : need.limit-most-requires
 limit-most-requires c κs =
-    omega (arith, ends-before (c .args .n) (c .args .at) (c .loop-g .g) (c .args .groups) (c .loop-g-test .taken), c .pre .rule .1 .whole)
+    omega (arith, ends-before (c .args .n) (c .args .at) (c .loop-g .g) (c .args .groups) (c .loop-g-test .taken), c .pre .well .0 .whole)
 
 pub returns-then-held-most : need.returns-then-held-most
 returns-then-held-most c = record {
@@ -36,7 +36,7 @@ returns-then-held-most c = record {
 
 pub mark-group-requires : need.mark-group-requires
 mark-group-requires c κs =
-    omega (arith, ends-before (c .args .n) (c .args .at) (c .loop-g .g) (c .args .groups) (c .loop-g-test .taken), c .pre .rule .1 .whole, c .pre .rule .1 .few)
+    omega (arith, ends-before (c .args .n) (c .args .at) (c .loop-g .g) (c .args .groups) (c .loop-g-test .taken), c .pre .well .0 .whole, c .pre .well .0 .few)
 
 pub loop-g-again : need.loop-g-again
 loop-g-again c =

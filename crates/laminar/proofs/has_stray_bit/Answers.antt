@@ -1,7 +1,7 @@
 use Prim.Native.Nat.{_+_}
 use Rattle.laminar.specs.Limits.{in-group}
 use Rattle.laminar.proofs.Steps.{some-more}
-use Rattle.laminar.proofs.is_stray.Needs as need
+use Rattle.laminar.proofs.has_stray_bit.Needs as need
 
 pub loop-k-again : need.loop-k-again
 loop-k-again c =
