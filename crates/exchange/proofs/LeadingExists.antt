@@ -7,7 +7,8 @@ use native.Mathlib.Omega.{arith}
 use Rattle.std.proofs.shelf.Tests.{cases-eq, both-ways}
 use Rattle.sets.specs.Matroid.{pick, Set, size, without, with, none, Within}
 use Rattle.sets.proofs.FiniteSets.{size-with, part-as-large, look-up, look-up-pair}
-use Rattle.exchange.specs.Paths.{Route, Leads-outside, Leads-inside, Leading-exists}
+use Rattle.exchange.specs.Graph.{arc, addable}
+use Rattle.exchange.specs.Paths.{Route, Leads-outside, Leads-inside, Leading, Leading-exists, Leading-agrees}
 use Rattle.exchange.proofs.DualSets.{sink-leads, inside-by, outside-by}
 
 -- all elements are a set as large as any
@@ -147,16 +148,38 @@ module _ (n : ℕ) (f g : Set → Bool) (s : Set) where
         first : (p q a b : Bool) → p ≡ true → q ≡ false → a ≡ true → pick p (not q && a) (q && b) ≡ false → ⊥
         first p q a b h l i e = grind arith
 
+-- a set in which everything leads, and to which nothing is left to be added, is the set of the elements that lead to a sink
+sound-and-full : (n : ℕ) (f g : Set → Bool) (s u : Set) → Sound n f g s u → Full n f g s u → Leading n f g s u
+sound-and-full n f g s u sound full = record {
+  outside-leads = λ z h out e. sound z h e .0 out;
+  inside-leads = λ z h held e. sound z h e .1 held;
+  all-outside = λ z h out way. subst (λ v. u v ≡ true) (way .4)
+      (route-starts n f g s u full (way .0) (way .1) (way .2) (way .3) (way .0) 0 (omega arith));
+  all-inside = λ z h held way. all-in n f g s u full z h held way;
+}
+
+-- the empty set, grown
+grown : (n : ℕ) (f g : Set → Bool) (s : Set) → (u : Set) × Sound n f g s u × Full n f g s u
+grown n f g s = grow n f g s n none (omega arith) (λ z h e. absurd (both-ways false refl e))
+
 -- the elements that lead to a sink can be told
 pub leading-exists : Leading-exists
-leading-exists n f g s =
-    let r = grow n f g s n none (omega arith) (λ z h e. absurd (both-ways false refl e)) in (
-      r .0,
-      record {
-        outside-leads = λ z h out e. r .1 z h e .0 out;
-        inside-leads = λ z h held e. r .1 z h e .1 held;
-        all-outside = λ z h out way. subst (λ v. r .0 v ≡ true) (way .4)
-            (route-starts n f g s (r .0) (r .2) (way .0) (way .1) (way .2) (way .3) (way .0) 0 (omega arith));
-        all-inside = λ z h held way. all-in n f g s (r .0) (r .2) z h held way;
-      },
+leading-exists n f g s = let r = grown n f g s in (r .0, sound-and-full n f g s (r .0) (r .1) (r .2))
+
+-- the least set that is closed backwards lies in the grown one, and nothing is left to be added to it
+pub leading-agrees : Leading-agrees
+unfolding arc addable
+leading-agrees n f g s u low = sound-and-full n f g s u
+    (λ z h e. let r = grown n f g s in
+    r .1 z h (low .least (r .0)
+    (λ x l sink. holds′ (r .0 x) (λ out. both-ways (ready n f g s x) (r .2 .0 x l out) sink))
+    (λ v x hv hx arc inr. holds′ (r .0 v) (λ out. both-ways (step n f g s v x) (r .2 .1 v x hv hx out inr) arc)) z h e)) (
+      (λ z h out. refute (ready n f g s z) (λ e. both-ways (u z) out (low .sinks z h e))),
+      (λ z v hz hv out inu. refute (step n f g s z v) (λ e. both-ways (u z) out (low .backwards z v hz hv e inu))),
     )
+  where
+    holds′ : (b : Bool) → (b ≡ false → ⊥) → b ≡ true
+    holds′ b h = grind arith
+
+    refute : (b : Bool) → (b ≡ true → ⊥) → b ≡ false
+    refute b h = grind arith

@@ -1,5 +1,5 @@
 // What is proved of augmenting paths between any two matroids over the same elements. Each function's contract names its theorem.
-ghost use Rattle.exchange.specs.Paths.{Best-augments, Best-of-all, Dual-by-closed, Leading-exists, Dual-by-no-path};
+ghost use Rattle.exchange.specs.Paths.{Best-augments, Best-of-all, Dual-by-closed, Leading-exists, Leading-agrees, Dual-by-no-path};
 ghost use Rattle.exchange.specs.Predecessors.{Labels-best};
 
 // Where a set has a weight splitting, any best path repeats no element and leads to a set that both matroids allow,
@@ -41,6 +41,13 @@ pub fn leading_elements_can_be_told() -> u8
 // Where there is no augmenting path, the elements that lead to a sink form a dual set.
 pub fn no_path_gives_a_dual_set() -> u8
     ensures { λ _. ⌜ Dual-by-no-path ⌝ }
+{
+    0
+}
+
+// The least set that holds the sinks and, with the head of an arc, its tail is the set of the elements that lead to a sink.
+pub fn closing_backwards_finds_what_leads() -> u8
+    ensures { λ _. ⌜ Leading-agrees ⌝ }
 {
     0
 }

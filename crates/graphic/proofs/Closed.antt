@@ -30,12 +30,14 @@ module _ (from to : ℕ → ℕ) (n : ℕ) where
       ⊎ (((joined from to n s u (from x) ≡ true) × (joined from to n s (to x) v ≡ true))
       ⊎ ((joined from to n s u (to x) ≡ true) × (joined from to n s (from x) v ≡ true)))
 
+  -- such a way leads back too
   by-sym : (s : Set) (x u v : ℕ) → By s x u v → By s x v u
   by-sym s x u v w =
       ⊎-elim (λ d. inl (joined-sym from to n s u v d))
       (λ r. ⊎-elim (λ d. inr (inr (joined-sym from to n s (to x) v (d .1), joined-sym from to n s u (from x) (d .0))))
       (λ d. inr (inl (joined-sym from to n s (from x) v (d .1), joined-sym from to n s u (to x) (d .0)))) r) w
 
+  -- and two such ways can be put together: the link is used at most once
   by-trans : (s : Set) (x u v w : ℕ) → By s x u v → By s x v w → By s x u w
   by-trans s x u v w a b =
       let tr = joined-trans from to n s in

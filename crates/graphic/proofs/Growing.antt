@@ -29,6 +29,7 @@ front-new s i = grind arith
 one-more : (b : Bool) (x i : ℕ) → (x ≡ i → b ≡ true) → ((b && ltb x i) || eqb x i) ≡ (b && ltb x (i + 1))
 one-more b x i h = ⊎-elim (λ e. let k = h e in grind arith) (λ ne. grind arith) (cases-eq x i)
 
+-- the links before i + 1, where i is not in the set
 no-more : (b : Bool) (x i : ℕ) → (x ≡ i → b ≡ false) → (b && ltb x i) ≡ (b && ltb x (i + 1))
 no-more b x i h = ⊎-elim (λ e. let k = h e in grind arith) (λ ne. grind arith) (cases-eq x i)
 

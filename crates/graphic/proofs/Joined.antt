@@ -32,6 +32,7 @@ module _ (from to : ℕ → ℕ) where
       ⊎ (((s m ≡ true) × (joined from to m s u (from m) ≡ true) × (joined from to m s (to m) v ≡ true))
       ⊎ ((s m ≡ true) × (joined from to m s u (to m) ≡ true) × (joined from to m s (from m) v ≡ true)))
 
+  -- one of those ways was taken
   pub ways : (m : ℕ) (s : Set) (u v : ℕ) → joined from to (suc m) s u v ≡ true → Ways m s u v
   ways m s u v h =
       split (joined from to m s u v) (s m) (joined from to m s u (from m)) (joined from to m s (to m) v)
@@ -41,6 +42,7 @@ module _ (from to : ℕ → ℕ) where
           (a ≡ true) ⊎ (((b ≡ true) × (c ≡ true) × (d ≡ true)) ⊎ ((b ≡ true) × (e ≡ true) × (f ≡ true)))
       split a b c d e f k = grind arith
 
+  -- each of those ways joins
   made : (m : ℕ) (s : Set) (u v : ℕ) → Ways m s u v → joined from to (suc m) s u v ≡ true
   made m s u v h =
       let k = joined-more m s u v in grind arith

@@ -11,13 +11,15 @@ use Rattle.sets.specs.Bits.{xor, word-row}
 use Rattle.sets.specs.Matroid.{pick}
 use Rattle.graphic.specs.Links.{in-row, label}
 
--- the label and the row that a town has in the end
+-- the label that a town has in the end
 abbrev pub label-then : List ℕ → ℕ → ℕ → ℕ → ℕ
 label-then xs old new t = pick (eqb (label xs t) old) new (label xs t)
 
+-- the row that a town has in the end
 abbrev pub row-then : List ℕ → ℕ → ℕ → ℕ → ℕ → Bool
 row-then xs n old t z = pick (eqb (label xs t) old) (xor (in-row xs n t z) (word-row xs 600 z)) (in-row xs n t z)
 
+-- how far the loop has come, from the state xs to the state ys
 pub record Merging (n old new t : ℕ) (xs ys : List ℕ) : Type 0 where
   pub labels-done : (u : ℕ) → u < t → label ys u ≡ label-then xs old new u
   pub rows-done : (u z : ℕ) → u < t → z < n → in-row ys n u z ≡ row-then xs n old u z

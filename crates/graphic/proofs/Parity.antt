@@ -22,6 +22,7 @@ same-bit a b h = grind arith
 differ-between : (a b c d : Bool) → a ≡ b → c ≡ d → xor b c ≡ true → xor a d ≡ true
 differ-between a b c d h k l = grind arith
 
+-- what differs does so either way round
 differ-turned : (a b : Bool) → xor a b ≡ true → xor b a ≡ true
 differ-turned a b h = grind arith
 

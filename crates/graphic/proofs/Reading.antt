@@ -100,6 +100,7 @@ module _ (file : List ℕ) (towns : ℕ) where
       late k rest zero l = let q : at + 2 * 0 ≡ at = omega arith in rw q one
       late k rest (suc j) l = let q : at + 2 * suc j ≡ at + 2 + 2 * j = omega arith in rw q (rest j (omega arith))
 
+  -- a refusal of towns is one of the two
   towns-stop : (left at : ℕ) (e : Refusal) → read-towns file towns left at ≡ Err e → Stop left at e
   towns-stop zero at e h = absurd (let z : _≡_ {A = ℕ} 0 1 = cc in omega arith)
   towns-stop (suc left) at e h =

@@ -33,9 +33,11 @@ before a f (suc i) = f i
 abbrev then : ℕ → (ℕ → ℕ) → (ℕ → ℕ) → ℕ → ℕ
 then k f g i = pick (ltb i k) (f i) (g (i - k))
 
+-- below k it is the first
 then-low : (k : ℕ) (f g : ℕ → ℕ) (i : ℕ) → i < k → then k f g i ≡ f i
 then-low k f g i l = grind arith
 
+-- from k on it is the second
 then-high : (k : ℕ) (f g : ℕ → ℕ) (i j : ℕ) → i ≡ k + j → then k f g i ≡ g j
 then-high k f g i j e = let d : i - k ≡ j = omega arith in let q : g (i - k) ≡ g j = ap g d in grind arith
 

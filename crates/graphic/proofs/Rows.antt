@@ -29,23 +29,27 @@ row-kept n at len place xs ys same apart z l =
 
 module _ (n town new : ℕ) (xs ys : List ℕ) (at : ℕ) (low : town < 600) (long : kept-length n ≤ length ys)
     (place : at ≡ 600 + row-words n * suc town) (rest : Same-but at (row-words n) xs ys) where
-  -- after the row of one town was written, and then its label, all other rows and labels are as they were
+  -- after the row of one town was written, and then its label: the label is the new one
   pub label-new : label (set ys town new) town ≡ new
   label-new = getD-set-same ys town new 0 (omega arith)
 
+  -- the labels of other towns are as they were
   pub label-kept : (t : ℕ) → t < 600 → (t ≡ town → ⊥) → label (set ys town new) t ≡ label xs t
   label-kept t l h = getD-set-other ys town t new 0 h ∙ rest t (inl (omega arith))
 
+  -- so is the working row
   pub work-kept : (z : ℕ) → z < n → word-row (set ys town new) 600 z ≡ word-row xs 600 z
   work-kept z l =
       row-kept n town 1 600 ys (set ys town new) (set-same-but ys town new) (inr (omega arith)) z l
       ∙ row-kept n at (row-words n) 600 xs ys rest (inl (omega (arith, mul-le (row-words n) 1 (row-words n) (suc town) (omega arith) (omega arith)))) z l
 
+  -- the town's row is as it was written
   pub town-row-new : (z : ℕ) → z < n → in-row (set ys town new) n town z ≡ word-row ys at z
   town-row-new z l =
       row-kept n town 1 (600 + row-words n * suc town) ys (set ys town new) (set-same-but ys town new) (inr (omega arith)) z l
       ∙ ap (λ p. word-row ys p z) (sym place)
 
+  -- the rows of other towns are as they were
   pub other-row-kept : (t z : ℕ) → t < 600 → (t ≡ town → ⊥) → z < n → in-row (set ys town new) n t z ≡ in-row xs n t z
   other-row-kept t z m h l =
       row-kept n town 1 (600 + row-words n * suc t) ys (set ys town new) (set-same-but ys town new) (inr (omega arith)) z l
@@ -68,10 +72,11 @@ place-fits n town at size l k e =
     let q = mul-le (row-words n) 1 (row-words n) (suc town) (omega arith) (omega arith) in
     (omega arith, omega arith)
 
--- a write to the working row leaves the labels and the rows of the towns
+-- a write to the working row leaves the labels of the towns
 pub labels-beside : (n : ℕ) (xs ys : List ℕ) → Same-but 600 (row-words n) xs ys → (t : ℕ) → t < 600 → label ys t ≡ label xs t
 labels-beside n xs ys h t l = h t (inl l)
 
+-- a write to the working row leaves the rows of the towns
 pub rows-beside : (n : ℕ) (xs ys : List ℕ) → Same-but 600 (row-words n) xs ys → (t z : ℕ) → z < n → in-row ys n t z ≡ in-row xs n t z
 rows-beside n xs ys h t z l =
     row-kept n 600 (row-words n) (600 + row-words n * suc t) xs ys h

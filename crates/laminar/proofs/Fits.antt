@@ -1,14 +1,15 @@
 -- Sets that stay within the limits of nested groups form a matroid.
-use mathlib.Core.Path.{_≡_, refl, sym, _∙_}
+use mathlib.Core.Path.{_≡_, refl}
 use mathlib.Core.Bool.{Bool, true, false, _&&_, _||_, not}
 use mathlib.Core.Logic.{_⊎_, inl, inr, ⊎-elim}
 use Prim.Native.Nat.{ℕ, zero, suc, _+_, _≤_, _<_}
 use native.Mathlib.Omega.{arith}
-use lib.Dec.{eqb, leb, ltb}
+use lib.Dec.{eqb, leb}
 use Rattle.std.proofs.shelf.Tests.{cases-bool, both-ways, cases-eq, leb-true, le-leb, eqb-true, and-parts}
-use Rattle.sets.specs.Matroid.{Set, pick, size, both, outside, with, without, none, Within, Hereditary, Augmentable, Matroid}
+use Rattle.sets.specs.Matroid.{Set, size, both, outside, with, none, Within, Hereditary, Augmentable, Matroid}
 use Rattle.laminar.specs.Limits.{fits, Nested}
-use Rattle.laminar.proofs.Sizes.{size-same, size-within, size-split, size-with, size-some, size-none, find-below}
+use Rattle.sets.proofs.FiniteSets.{size-same, size-within, size-parts, has-element, look-up}
+use Rattle.laminar.proofs.Sizes.{size-empty, part-with}
 
 -- a set that fits has no more of any group than its limit
 pub fits-each : (n : ℕ) (group : ℕ → Set) (most : ℕ → ℕ) (m : ℕ) (s : Set) → fits n group most m s ≡ true →
@@ -76,7 +77,7 @@ apart-sum (suc n) a v t h =
 none-outside : (n : ℕ) (a b : Set) → eqb (size n (outside a b)) 0 ≡ true → Within n a b
 none-outside n a b e x l p =
     ⊎-elim (λ (q : b x ≡ true). q)
-    (λ (q : b x ≡ false). let w : 0 < size n (outside a b) = size-some n (outside a b) x l (grind arith) in absurd (grind arith))
+    (λ (q : b x ≡ false). let w : 0 < size n (outside a b) = has-element n (outside a b) x l (grind arith) in absurd (grind arith))
     (cases-bool (b x))
 
 -- a group inside a chosen one adds nothing to the union
@@ -103,7 +104,7 @@ away-apart n group f m k x l e =
     let r = union-out group (away n group f m) k x c in
     let p = and-parts (f (r .0)) (eqb (size n (both (group (r .0)) (group m))) 0) (r .2) in
     let y = r .3 in
-    let w : 0 < size n (both (group (r .0)) (group m)) = size-some n (both (group (r .0)) (group m)) x l (grind arith) in
+    let w : 0 < size n (both (group (r .0)) (group m)) = has-element n (both (group (r .0)) (group m)) x l (grind arith) in
     let z = p .1 in
     absurd (grind arith))
     (λ (c : union group (away n group f m) k x ≡ false). c)
@@ -114,10 +115,10 @@ side : (n : ℕ) (group : ℕ → Set) (f : ℕ → Bool) (m g x : ℕ) → x < 
     (f g && eqb (size n (outside (group m) (group g))) 0) ≡ false → Nested n (group g) (group m) →
     (away n group f m g ≡ true) ⊎ (group m x ≡ true)
 side n group f m g x l c d e (inl h) =
-    let w = size-none n (both (group g) (group m)) (λ y k. let i = h y k in grind arith) in inl (grind arith)
+    let w = size-empty n (both (group g) (group m)) (λ y k. let i = h y k in grind arith) in inl (grind arith)
 side n group f m g x l c d e (inr (inl h)) = inr (h x l d)
 side n group f m g x l c d e (inr (inr h)) =
-    let w = size-none n (outside (group m) (group g)) (λ y k. let i = h y k in grind arith) in absurd (grind arith)
+    let w = size-empty n (outside (group m) (group g)) (λ y k. let i = h y k in grind arith) in absurd (grind arith)
 
 -- where no chosen group holds group m, the union is group m and what is away from it
 widened : (n : ℕ) (group : ℕ → Set) (f : ℕ → Bool) (m : ℕ) → f m ≡ true →
@@ -147,7 +148,7 @@ counted : (n : ℕ) (s t : Set) (group : ℕ → Set) (m : ℕ) (f : ℕ → Boo
     ((g h : ℕ) → g < m → h < m → Nested n (group g) (group h)) →
     size n (both (union group f m) t) ≤ size n (both (union group f m) s)
 counted n s t group zero f each nest =
-    let a = size-none n (both (union group f zero) t) (λ x l. refl) in omega arith
+    let a = size-empty n (both (union group f zero) t) (λ x l. refl) in omega arith
 counted n s t group (suc m) f each nest =
     let nested′ : (g h : ℕ) → g < m → h < m → Nested n (group g) (group h) = λ g h i j. nest g h (omega arith) (omega arith) in
     let inner = counted n s t group m f (λ g l. each g (omega arith)) nested′ in
@@ -166,7 +167,7 @@ counted n s t group (suc m) f each nest =
     let q = apart-sum n (group m) (union group (away n group f m) m) s a in
     let o = each m (omega arith) c in
     omega arith))
-    (find-below (λ k. f k && eqb (size n (outside (group m) (group k))) 0) m))
+    (look-up m (λ k. f k && eqb (size n (outside (group m) (group k))) 0)))
     (λ (c : f m ≡ false).
     over-same n (union group f (suc m)) (union group f m) s t (λ x l. grind arith) inner)
     (cases-bool (f m))
@@ -176,7 +177,7 @@ pub takes : (n : ℕ) (group : ℕ → Set) (most : ℕ → ℕ) (m : ℕ) (s : 
     ((g : ℕ) → g < m → group g x ≡ true → size n (both (group g) s) ≡ most g → ⊥) → fits n group most m (with s x) ≡ true
 takes n group most m s x l e h no-full =
     each-fits n group most m (with s x)
-    (λ g k. let a = size-with n (group g) s x l e in
+    (λ g k. let a = part-with n (group g) s x l e in
     let b = fits-each n group most m s h g k in
     let c = no-full g k in
     grind arith)
@@ -213,12 +214,12 @@ fits-more n group most m nest s t hs ht less =
     let c : u x ≡ false = outside-not t u x e in
     let d = covered n group most m s x l hs (λ sx. stuck (t x) (s x) (fits n group most m (with s x)) (outside-in t u x e) sx i) c in
     and-from-not (s x) (u x) d c) in
-    let a = size-split n t u in
-    let b = size-split n s u in
+    let a = size-parts n t u in
+    let b = size-parts n s u in
     let c = parts-swap n t u in
     let d = parts-swap n s u in
     absurd (omega arith))
-    (find-below (λ x. t x && not (s x) && fits n group most m (with s x)) n)
+    (look-up n (λ x. t x && not (s x) && fits n group most m (with s x)))
   where
     outside-not : (a b : Set) (x : ℕ) → outside a b x ≡ true → b x ≡ false
     outside-not a b x e = grind arith
@@ -249,7 +250,7 @@ pub fits-matroid : (n : ℕ) (group : ℕ → Set) (most : ℕ → ℕ) (m : ℕ
 unfolding Hereditary Augmentable
 fits-matroid n group most m nest = record {
   empty = each-fits n group most m none
-      (λ g l. let a = size-none n (both (group g) none) (λ x k. grind arith) in omega arith);
+      (λ g l. let a = size-empty n (both (group g) none) (λ x k. grind arith) in omega arith);
   hereditary = fits-less n group most m;
   augmentable = fits-more n group most m nest;
 }

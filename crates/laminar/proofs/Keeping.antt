@@ -2,13 +2,13 @@
 use mathlib.Core.Path.{_≡_, refl, sym, _∙_, ap, ap₂}
 use mathlib.Core.Bool.{Bool, true, false, _&&_, _||_, not}
 use mathlib.Core.List.{List}
-use mathlib.Core.Logic.{_⊎_, inl, inr, ⊎-elim}
-use Prim.Native.Nat.{ℕ, zero, suc, _+_, _-_, _*_, _^_, _≤_, _<_}
+use mathlib.Core.Logic.{⊎-elim}
+use Prim.Native.Nat.{ℕ, _+_, _-_, _*_, _^_, _≤_, _<_}
 use native.Mathlib.Omega.{arith}
 use lib.Bits.{bitAnd, bitOr, and-lt}
-use lib.Dec.{eqb, leb, ltb}
+use lib.Dec.{eqb, ltb}
 use lib.ListN.{length, getD}
-use Rattle.std.proofs.shelf.Tests.{cases-bool, cases-eq, cases-lt, both-ways, eqb-true, eq-eqb, ne-eqb, and-parts, lt-ltb, ltb-true}
+use Rattle.std.proofs.shelf.Tests.{cases-eq, both-ways, eqb-true, eq-eqb, ne-eqb, and-parts, lt-ltb, ltb-true}
 use Rattle.sets.specs.Matroid.{Set, size, both, with, without}
 use Rattle.sets.specs.Bits.{marked, word-row}
 use Rattle.sets.proofs.Masks.{bit, bit-and, bit-not}

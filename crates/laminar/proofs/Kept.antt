@@ -1,20 +1,20 @@
 -- What is kept: words as sets of groups, and the answers that are read off them.
-use mathlib.Core.Path.{_≡_, refl, sym, _∙_, ap}
-use mathlib.Core.Bool.{Bool, true, false, _&&_, _||_, not}
+use mathlib.Core.Path.{_≡_, sym, _∙_, ap}
+use mathlib.Core.Bool.{Bool, true, false}
 use mathlib.Core.List.{List}
 use mathlib.Core.Logic.{_⊎_, inl, inr, ⊎-elim}
 use Prim.Native.Nat.{ℕ, zero, suc, _+_, _-_, _*_, _/_, _%_, _^_, _≤_, _<_}
 use native.Mathlib.Omega.{arith}
-use lib.Bits.{bitAnd, bitOr}
-use lib.Dec.{eqb, leb, ltb}
-use lib.ListN.{length, getD}
+use lib.Bits.{bitOr}
+use lib.Dec.{eqb}
+use lib.ListN.{getD}
 use Rattle.std.proofs.shelf.Bits.{or-lt}
-use Rattle.std.proofs.shelf.Tests.{cases-eq, cases-lt, both-ways, eq-eqb, ne-eqb, or-cases, or-parts}
-use Rattle.sets.specs.Matroid.{Set, pick, size, both, with, without}
+use Rattle.std.proofs.shelf.Tests.{cases-lt, both-ways, eq-eqb, ne-eqb, or-cases, or-parts}
+use Rattle.sets.specs.Matroid.{Set}
 use Rattle.sets.specs.Bits.{marked, word-row}
-use Rattle.sets.proofs.Masks.{bit, bit-or, bit-and, bit-not, bit-zero, bit-shr}
+use Rattle.sets.proofs.Masks.{bit, bit-or, bit-zero, bit-shr}
 use Rattle.sets.proofs.Stretches.{word-row-is}
-use Rattle.laminar.proofs.Sizes.{find-below}
+use Rattle.sets.proofs.FiniteSets.{look-up}
 
 -- a number of k bits none of which is set is 0
 no-bits : (k v : ℕ) → v < 2 ^ k → ((j : ℕ) → j < k → bit v j ≡ false) → v ≡ 0
@@ -54,7 +54,7 @@ apart-words u v s a b hu hv =
           (cases-lt g 32)),
       eq-eqb (bitOr u v) 0 z,
     ))
-    (find-below (bit (bitOr u v)) 32)
+    (look-up 32 (bit (bitOr u v)))
   where
     set-bit : (w j : ℕ) → bit w j ≡ true → eqb w 0 ≡ false
     set-bit w j e = ne-eqb w 0 (λ z. both-ways (bit w j) (rw z (bit-zero j)) e)

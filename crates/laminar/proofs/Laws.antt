@@ -1,9 +1,5 @@
 -- The rule of limits: its test says what its natural reading says, and it is a matroid.
-use mathlib.Core.Path.{_≡_}
-use mathlib.Core.List.{List}
-use Prim.Native.Nat.{ℕ}
-use Rattle.sets.specs.Matroid.{Set, Matroid}
-use Rattle.laminar.specs.Limits.{limit, in-group, allows, Well, Reading-agrees, Limits-matroid}
+use Rattle.laminar.specs.Limits.{limit, in-group, Reading-agrees, Limits-matroid}
 use Rattle.laminar.proofs.Fits.{fits-each, each-fits, fits-matroid}
 
 -- a well-formed rule of limits is a matroid

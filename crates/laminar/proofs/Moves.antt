@@ -1,15 +1,14 @@
 -- When one more offer fits, and when one offer may come for another.
 use mathlib.Core.Path.{_≡_, refl, sym, subst}
-use mathlib.Core.Bool.{Bool, true, false, _&&_, _||_, not}
-use mathlib.Core.Logic.{_⊎_, inl, inr, ⊎-elim}
+use mathlib.Core.Bool.{true, false}
+use mathlib.Core.Logic.{⊎-elim}
 use Prim.Native.Nat.{ℕ, suc, _+_, _≤_, _<_}
 use native.Mathlib.Numerals.{add-one}
 use native.Mathlib.Omega.{arith}
-use lib.Dec.{eqb, leb, ltb}
 use Rattle.std.proofs.shelf.Tests.{cases-bool, le-leb}
 use Rattle.sets.specs.Matroid.{Set, pick, size, both, with, without}
 use Rattle.laminar.specs.Limits.{fits}
-use Rattle.laminar.proofs.Sizes.{size-with, size-without}
+use Rattle.laminar.proofs.Sizes.{part-with, part-without}
 use Rattle.laminar.proofs.Fits.{fits-each, each-fits}
 
 -- a set that fits the first g groups and has no more of the next than its limit fits that one too
@@ -33,15 +32,15 @@ too-many n group most m s g l h =
 pub add-stops : (n : ℕ) (group : ℕ → Set) (most : ℕ → ℕ) (m : ℕ) (s : Set) (x g : ℕ) → x < n → s x ≡ false → g < m →
     group g x ≡ true → size n (both (group g) s) ≡ most g → fits n group most m (with s x) ≡ false
 add-stops n group most m s x g l e k a b =
-    let c = size-with n (group g) s x l e in
+    let c = part-with n (group g) s x l e in
     too-many n group most m (with s x) g k (grind arith)
 
 -- how many of a group there are after an exchange
 exchanged : (n : ℕ) (a s : Set) (x y : ℕ) → x < n → s x ≡ false → y < n → s y ≡ true →
     size n (both a (with (without s y) x)) + pick (a y) 1 0 ≡ size n (both a s) + pick (a x) 1 0
 exchanged n a s x y lx ex ly ey =
-    let p = size-without n a s y ly ey in
-    let q = size-with n a (without s y) x lx (grind arith) in
+    let p = part-without n a s y ly ey in
+    let q = part-with n a (without s y) x lx (grind arith) in
     omega arith
 
 -- x may come for y where each full group that holds x holds y

@@ -1,11 +1,11 @@
 -- Tests that look through a set, and what they say of two groups.
-use mathlib.Core.Path.{_≡_, refl, sym, _∙_}
-use mathlib.Core.Bool.{Bool, true, false, _&&_, _||_, not}
-use mathlib.Core.Logic.{_⊎_, inl, inr, ⊎-elim}
-use Prim.Native.Nat.{ℕ, zero, suc, _+_, _≤_, _<_}
+use mathlib.Core.Path.{_≡_, refl}
+use mathlib.Core.Bool.{Bool, true, false, _&&_, not}
+use mathlib.Core.Logic.{inl, inr, ⊎-elim}
+use Prim.Native.Nat.{ℕ, zero, suc, _<_}
 use native.Mathlib.Omega.{arith}
 use Rattle.std.proofs.shelf.Tests.{cases-bool, cases-eq, both-ways, and-parts, and-cases, or-parts, or-cases}
-use Rattle.sets.specs.Matroid.{Set, both, outside, Within}
+use Rattle.sets.specs.Matroid.{Set, both, outside}
 use Rattle.laminar.specs.Limits.{Nested}
 use Rattle.laminar.specs.Reading.{Overlapping, some, overlaps}
 

@@ -1,24 +1,23 @@
 -- What reading a rule of limits says: it is well formed, or the refusal is the first of its faults.
-use mathlib.Core.Path.{_≡_, refl, sym, _∙_, subst}
-use mathlib.Core.Bool.{Bool, true, false, _&&_, _||_, not, cond}
+use mathlib.Core.Path.{_≡_, refl, _∙_, subst}
+use mathlib.Core.Bool.{Bool, true, false, cond}
 use mathlib.Core.List.{List}
 use mathlib.Core.Logic.{_⊎_, inl, inr, ⊎-elim}
 use Prim.Native.Nat.{ℕ, zero, suc, _+_, _-_, _*_, _≤_, _<_}
 use native.Mathlib.Omega.{arith}
 use lib.Dec.{leb, ltb}
-use lib.ListN.{length, getD}
-use Rattle.std.proofs.shelf.Tests.{cases-bool, cases-eq, cases-lt, cases-order, both-ways, ltb-true, ltb-false, leb-true, leb-false, le-ltb}
+use lib.ListN.{length}
+use Rattle.std.proofs.shelf.Tests.{cases-eq, cases-order, both-ways, ltb-true, ltb-false, leb-true, leb-false, le-ltb}
 use Rattle.std.specs.declared.result.Result.{Result}
 use Rattle.std.specs.declared.result.Result.the-variants.{Ok, Err}
 use Rattle.sets.specs.declared.refusal.Refusal.{Refusal}
 use Rattle.sets.specs.declared.refusal.Refusal.the-variants.{Length, Range, Overlap}
 use Rattle.sets.specs.declared.refusal.Source.the-variants.{Offers}
-use Rattle.sets.specs.Matroid.{Set}
 use Rattle.sets.specs.Bits.{row-bytes}
 use Rattle.sets.specs.Refusals.{place, number, Precedes, First}
 use Rattle.laminar.specs.Limits.{group-bytes, group-at, limit, in-group, Nested, Well}
-use Rattle.laminar.specs.Reading.{count, end, Group-fault, high, overlap, stray, Fault, cut, many, group, some, overlaps, overlaps-below, has-stray, then, read-group, read-groups, read}
-use Rattle.laminar.proofs.Nested.{some-found, some-none, none-some, found-some, overlaps-true, overlapping-true, overlaps-false, nested-false, nested-swap}
+use Rattle.laminar.specs.Reading.{count, end, Group-fault, high, overlap, stray, Fault, cut, many, group, overlaps, overlaps-below, has-stray, then, read-group, read-groups, read}
+use Rattle.laminar.proofs.Nested.{some-found, some-none, none-some, overlaps-true, overlapping-true, overlaps-false, nested-false, nested-swap}
 use Rattle.laminar.proofs.Steps.{ends-before, next-group, passed, Passed, group-passed, read-in-range}
 
 -- two results one after the other are fine where both are
@@ -79,7 +78,7 @@ well-from file n at m l few p = record {
 }
 
 -- what was read is well formed
-pub ok-well : (file : List ℕ) (n p c : ℕ) → read file n p ≡ Ok c → (p < length file) × (c ≡ count file p) × Well file n c (p + 1)
+pub ok-well : (file : List ℕ) (n p c : ℕ) → read file n p ≡ Ok c → (p + 1 ≤ length file) × (c ≡ count file p) × Well file n c (p + 1)
 ok-well file n p c h =
     let a = passed (leb (length file) p) _ _ c h in
     let l = leb-false (length file) p (a .0) in
@@ -87,7 +86,7 @@ ok-well file n p c h =
     let d = then-ok (read-groups file n (p + 1) (count file p)) (Ok (count file p)) c (b .1) in
     let e : c ≡ count file p = let z = d .1 in cc in
     let w = well-from file n (p + 1) (count file p) (omega arith) (ltb-false 64 (count file p) (b .0)) (groups-passed file n (p + 1) (count file p) (d .0 .1)) in
-    (l, e, rw e w)
+    (omega arith, e, rw e w)
 
 -- the groups of a well-formed rule pass their tests
 well-passed : (file : List ℕ) (n m at : ℕ) → Well file n m at → (g : ℕ) → g < m → Passed file n at g
@@ -112,10 +111,10 @@ passed-ok file n at (suc m) h =
     rw (r, p .has-limit, p .low, p .has-row, p .apart, p .clean) refl
 
 -- a well-formed rule is read
-pub well-ok : (file : List ℕ) (n p : ℕ) → p < length file → Well file n (count file p) (p + 1) → read file n p ≡ Ok (count file p)
+pub well-ok : (file : List ℕ) (n p : ℕ) → p + 1 ≤ length file → Well file n (count file p) (p + 1) → read file n p ≡ Ok (count file p)
 well-ok file n p l w =
     let r = passed-ok file n (p + 1) (count file p) (well-passed file n (count file p) (p + 1) w) in
-    read-in-range file n p l (w .few) ∙ rw r refl
+    read-in-range file n p (omega arith) (w .few) ∙ rw r refl
 
 -- why a group was refused, with the tests that it had passed before
 data Why (file : List ℕ) (n at g : ℕ) : Refusal → Type 0 where
@@ -276,7 +275,7 @@ err-first file n p e h =
     too-many file n p l f (group h _ a k) = let x = group-place file n (p + 1) h k in inl (omega arith)
 
 -- a well-formed rule has no fault
-pub well-faultless : (file : List ℕ) (n p : ℕ) (f : Refusal) → p < length file → Well file n (count file p) (p + 1) → Fault file n p f → ⊥
+pub well-faultless : (file : List ℕ) (n p : ℕ) (f : Refusal) → p + 1 ≤ length file → Well file n (count file p) (p + 1) → Fault file n p f → ⊥
 well-faultless file n p _ l w (cut a) = let x = w .whole in omega arith
 well-faultless file n p _ l w (many a b) = let x = w .few in omega arith
 well-faultless file n p f l w (group h _ a k) = passed-faultless file n (p + 1) h (well-passed file n (count file p) (p + 1) w h a) k

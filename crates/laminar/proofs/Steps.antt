@@ -1,23 +1,20 @@
 -- Steps of the loops that read a rule: one more element, one more group.
 use mathlib.Core.Path.{_≡_, refl, sym, _∙_, subst}
-use mathlib.Core.Bool.{Bool, true, false, _&&_, _||_, not, cond}
+use mathlib.Core.Bool.{Bool, true, false, _||_, cond}
 use mathlib.Core.List.{List}
-use mathlib.Core.Logic.{_⊎_, inl, inr, ⊎-elim}
-use Prim.Native.Nat.{ℕ, zero, suc, _+_, _*_, _≤_, _<_}
+use mathlib.Core.Logic.{⊎-elim}
+use Prim.Native.Nat.{ℕ, zero, suc, _+_, _≤_, _<_}
 use native.Mathlib.Numerals.{add-one}
 use native.Mathlib.Omega.{arith}
-use lib.Dec.{leb, ltb}
-use lib.ListN.{length, getD}
+use lib.Dec.{ltb}
+use lib.ListN.{length}
 use Rattle.std.proofs.shelf.Bits.{mul-le}
 use Rattle.std.proofs.shelf.Tests.{cases-eq, ltb-false, lt-leb, le-ltb}
 use Rattle.std.specs.declared.result.Result.{Result}
 use Rattle.std.specs.declared.result.Result.the-variants.{Ok, Err}
 use Rattle.sets.specs.declared.refusal.Refusal.{Refusal}
-use Rattle.sets.specs.declared.refusal.Refusal.the-variants.{Length, Range, Overlap}
-use Rattle.sets.specs.declared.refusal.Source.the-variants.{Offers}
 use Rattle.sets.specs.Matroid.{Set}
-use Rattle.sets.specs.Bits.{row-bytes}
-use Rattle.laminar.specs.Limits.{group-bytes, group-at, limit, in-group}
+use Rattle.laminar.specs.Limits.{group-bytes, group-at, limit}
 use Rattle.laminar.specs.Reading.{some, overlaps-below, has-stray, then, read-group, read-groups, read, count}
 
 -- one more element looked at

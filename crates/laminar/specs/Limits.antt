@@ -1,12 +1,12 @@
 -- Rules of limits: groups of offers, any two of them apart or one inside the other, and how many of each group a set may have.
 use mathlib.Core.Path.{_≡_}
-use mathlib.Core.Bool.{Bool, true, false, _&&_, _||_, not}
+use mathlib.Core.Bool.{Bool, true, false, _&&_, _||_}
 use mathlib.Core.List.{List}
 use mathlib.Core.Logic.{_⊎_}
 use Prim.Native.Nat.{ℕ, zero, suc, _+_, _*_, _≤_, _<_}
 use lib.Dec.{leb, ltb, eqb}
-use lib.ListN.{length, getD}
-use Rattle.sets.specs.Matroid.{Set, size, both, outside, with, without, Within, Matroid}
+use lib.ListN.{length}
+use Rattle.sets.specs.Matroid.{Set, size, both, Within, Matroid}
 use Rattle.sets.specs.Bits.{row, word-row, marked, row-bytes, le2}
 
 -- a group in the file: two bytes for its limit, then a row of bits
@@ -34,7 +34,7 @@ abbrev pub fits : ℕ → (ℕ → Set) → (ℕ → ℕ) → ℕ → Set → Bo
 fits n group most zero s = true
 fits n group most (suc m) s = leb (size n (both (group m) s)) (most m) && fits n group most m s
 
--- the same as a test
+-- Allowed as a test
 abbrev pub allows : List ℕ → ℕ → ℕ → ℕ → Set → Bool
 allows file n groups at s = fits n (in-group file n at) (limit file n at) groups s
 

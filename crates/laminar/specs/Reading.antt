@@ -91,8 +91,8 @@ read file n p =
 abbrev pub Reads-well : Type 0
 Reads-well =
     (file : List ℕ) (n p c : ℕ) →
-    (read file n p ≡ Ok c → (p < length file) × (c ≡ count file p) × Well file n c (p + 1)) ×
-    (p < length file → c ≡ count file p → Well file n c (p + 1) → read file n p ≡ Ok c)
+    (read file n p ≡ Ok c → (p + 1 ≤ length file) × (c ≡ count file p) × Well file n c (p + 1)) ×
+    (p + 1 ≤ length file → c ≡ count file p → Well file n c (p + 1) → read file n p ≡ Ok c)
 
 -- what is refused is refused by the first of its faults
 abbrev pub Refuses-first : Type 0

@@ -3,8 +3,8 @@
 // byte first, and a row of bits, bit i for offer i.
 ghost use mathlib.Core.Path.{_≡_};
 ghost use mathlib.Core.Bool.{true, false};
-ghost use Prim.Native.Nat.{ℕ, _+_, _-_, _*_, _/_, _%_, _^_, _<_, _≤_};
-ghost use lib.ListN.{length, getD};
+ghost use Prim.Native.Nat.{_+_, _-_, _*_, _/_, _^_, _<_, _≤_};
+ghost use lib.ListN.{length};
 ghost use Rattle.sets.specs.Bits.{row, row-bytes, row-words, marked};
 ghost use Rattle.sets.specs.Matroid.{size, both, with, without};
 ghost use Rattle.laminar.specs.Limits.{group-bytes, group-at, limit, in-group, allows, kept-length, Well, Ready, Marked, Reading-agrees, Limits-matroid};
@@ -15,12 +15,20 @@ use sets::refusal::Refusal;
 use sets::refusal::Source;
 use sets::words;
 
+// How many bytes a row of n bits takes.
+fn row_bytes(n: usize) -> usize
+    requires { ⌜ n ≤ 600 ⌝ }
+    ensures { λ r. ⌜ r ≡ row-bytes n ⌝ }
+{
+    (n + 7) / 8
+}
+
 // How many bytes a group takes.
 fn group_bytes(n: usize) -> usize
     requires { ⌜ n ≤ 600 ⌝ }
     ensures { λ r. ⌜ r ≡ group-bytes n ⌝ }
 {
-    2 + (n + 7) / 8
+    2 + row_bytes(n)
 }
 
 // Where group g begins.
@@ -37,6 +45,7 @@ fn overlap(file: &[u8], n: usize, a: usize, b: usize) -> bool
     ensures { λ r. ⌜ r ≡ overlaps n (row (now (file .entry)) a) (row (now (file .entry)) b) ⌝ }
 {
     let mut shared = false;
+    // Has the first group, and has the second, an offer that the other lacks?
     let mut first = false;
     let mut second = false;
     for i in 0..n {
@@ -78,12 +87,12 @@ fn overlaps_earlier(file: &[u8], n: usize, at: usize, g: usize) -> bool
 }
 
 // Is a bit behind the last offer set in group g?
-fn is_stray(file: &[u8], n: usize, at: usize, g: usize) -> bool
+fn has_stray_bit(file: &[u8], n: usize, at: usize, g: usize) -> bool
     requires { ⌜ n ≤ 600 ⌝ ∗ ⌜ group-at n at g + group-bytes n ≤ length (now file) ⌝ }
     ensures { λ r. ⌜ r ≡ has-stray (now (file .entry)) n at g ⌝ }
 {
     let place = group_at(n, at, g) + 2;
-    let behind = (n + 7) / 8 * 8 - n;
+    let behind = 8 * row_bytes(n) - n;
     let mut found = false;
     for k in 0..behind {
         found = found | bytes::contains(file, place, n + k);
@@ -91,7 +100,7 @@ fn is_stray(file: &[u8], n: usize, at: usize, g: usize) -> bool
     found
 }
 
-// Checks group g, where the groups before it are fine.
+// Checks group g: its limit, that all of it is there, that it overlaps no earlier group, and that no bit behind the last offer is set.
 fn check_group(file: &[u8], n: usize, at: usize, g: usize) -> Result<(), Refusal>
     requires { ⌜ n ≤ 600 ⌝ ∗ ⌜ group-at n at g ≤ length (now file) ⌝ }
     ensures { λ r. ⌜ r ≡ read-group (now (file .entry)) n at g ⌝ }
@@ -110,8 +119,8 @@ fn check_group(file: &[u8], n: usize, at: usize, g: usize) -> Result<(), Refusal
     if overlaps_earlier(file, n, at, g) {
         return Err(Refusal::Overlap(place));
     }
-    if is_stray(file, n, at, g) {
-        return Err(Refusal::Range(Source::Offers, place + 1 + (n + 7) / 8));
+    if has_stray_bit(file, n, at, g) {
+        return Err(Refusal::Range(Source::Offers, place + 1 + row_bytes(n)));
     }
     Ok(())
 }
@@ -170,10 +179,10 @@ pub fn independent(
     set: &[u32],
     state: &mut [u32],
 ) -> bool
-    requires rule { ⌜ n ≤ 600 ⌝ ∗ ⌜ Well (now file) n groups at ⌝ }
+    requires well { ⌜ Well (now file) n groups at ⌝ ∗ ⌜ n ≤ 600 ⌝ }
     requires room { ⌜ row-words n ≤ length (now set) ⌝ ∗ ⌜ kept-length n ≤ length (now state) ⌝ }
     ensures answers { λ r. ⌜ r ≡ allows (now (file .entry)) n groups at (marked (now (set .entry))) ⌝ }
-    ensures keeps { λ r. ⌜ (r ≡ true → Ready (now (file .entry)) n groups at (marked (now (set .entry))) (now (state .exit))) ⌝ }
+    ensures kept { λ r. ⌜ (r ≡ true → Ready (now (file .entry)) n groups at (marked (now (set .entry))) (now (state .exit))) ⌝ }
 {
     words::clear_row(state, 0, 2 + 2 * n);
     for g in 0..groups {
@@ -200,9 +209,9 @@ pub fn can_add(
     state: &[u32],
     x: usize,
 ) -> bool
-    requires rule { ⌜ n ≤ 600 ⌝ ∗ ⌜ Well (now file) n groups at ⌝ }
+    requires well { ⌜ Well (now file) n groups at ⌝ ∗ ⌜ n ≤ 600 ⌝ }
     requires ready { ⌜ Ready (now file) n groups at (marked (now set)) (now state) ⌝ }
-    requires offers { ⌜ x < n ⌝ ∗ ⌜ marked (now set) x ≡ false ⌝ }
+    requires outside { ⌜ x < n ⌝ ∗ ⌜ marked (now set) x ≡ false ⌝ }
     ensures { λ r. ⌜ r ≡ allows (now (file .entry)) n groups at (with (marked (now (set .entry))) x) ⌝ }
 {
     let come = 2 + 2 * x;
@@ -220,9 +229,10 @@ pub fn can_exchange(
     x: usize,
     y: usize,
 ) -> bool
-    requires rule { ⌜ n ≤ 600 ⌝ ∗ ⌜ Well (now file) n groups at ⌝ }
+    requires well { ⌜ Well (now file) n groups at ⌝ ∗ ⌜ n ≤ 600 ⌝ }
     requires ready { ⌜ Ready (now file) n groups at (marked (now set)) (now state) ⌝ }
-    requires offers { ⌜ x < n ⌝ ∗ ⌜ marked (now set) x ≡ false ⌝ ∗ ⌜ y < n ⌝ ∗ ⌜ marked (now set) y ≡ true ⌝ }
+    requires outside { ⌜ x < n ⌝ ∗ ⌜ marked (now set) x ≡ false ⌝ }
+    requires inside { ⌜ y < n ⌝ ∗ ⌜ marked (now set) y ≡ true ⌝ }
     ensures { λ r. ⌜ r ≡ allows (now (file .entry)) n groups at (with (without (marked (now (set .entry))) y) x) ⌝ }
 {
     let come = 2 + 2 * x;

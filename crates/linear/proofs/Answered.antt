@@ -1,21 +1,21 @@
 -- What the kept state answers.
 use mathlib.Core.Path.{_≡_, refl, sym, ap, _∙_}
-use mathlib.Core.Bool.{Bool, true, false, not, _&&_, _||_}
+use mathlib.Core.Bool.{Bool, true, false, not, _||_}
 use mathlib.Core.List.{List}
-use mathlib.Core.Logic.{_⊎_, inl, inr, ⊎-elim}
-use Prim.Native.Nat.{ℕ, zero, suc, _+_, _-_, _*_, _%_, _≤_, _<_}
+use mathlib.Core.Logic.{⊎-elim}
+use Prim.Native.Nat.{ℕ, _+_, _*_, _%_, _≤_, _<_}
 use native.Mathlib.Omega.{arith}
 use lib.Dec.{eqb}
 use lib.ListN.{length, getD, set}
 use Rattle.std.proofs.shelf.Lists.{getD-set-same, getD-set-other}
 use Rattle.std.proofs.shelf.Tests.{cases-eq, cases-bool, both-ways, eqb-true, eq-eqb}
-use Rattle.sets.specs.Matroid.{Set, pick, weight, with, without}
+use Rattle.sets.specs.Matroid.{Set, pick, with, without}
 use Rattle.sets.specs.Closure.{free}
 use Rattle.sets.proofs.ClosureTheorem.{free-each, free-all, free-adds, free-exchanges}
 use Rattle.linear.specs.Rows.{number, span, spanned, allows, Well}
 use Rattle.linear.specs.Kept.{dot, rest, functional, flag, Dual, Ready}
-use Rattle.linear.proofs.Modulo.{Null, rest-null, null-rest}
-use Rattle.linear.proofs.Span.{Spans, spans-member, spans-through, spanned-gives, spanned-from}
+use Rattle.linear.proofs.Modulo.{rest-null, null-rest}
+use Rattle.linear.proofs.Span.{spans-member, spans-through, spanned-gives}
 use Rattle.linear.proofs.DualBasis.{rest-spans, spans-rest, dual-free, without-gives, without-spans}
 use Rattle.linear.proofs.Insertion.{dot-first}
 use Rattle.linear.proofs.Laws.{prime-pos, span-gives, span-from, span-closure}
@@ -24,10 +24,11 @@ use Rattle.linear.proofs.Laws.{prime-pos, span-gives, span-from, span-closure}
 pub alike : (a b : Bool) → (a ≡ true → b ≡ true) → (b ≡ true → a ≡ true) → a ≡ b
 alike a b f g = grind arith
 
--- the first part of an `or` decides, or else the second
+-- where the first part of an `or` is true, it decides
 pub or-first : (b z a : Bool) → b ≡ true → (b || z) ≡ a → b ≡ a
 or-first b z a h e = grind arith
 
+-- where the first part is false, the second decides
 pub or-second : (b z a : Bool) → b ≡ false → (b || z) ≡ a → z ≡ a
 or-second b z a h e = grind arith
 
@@ -71,6 +72,7 @@ flags-more f xs x v in-xs e old y h =
     (cases-eq y x)
 
 module _ (file : List ℕ) (n prime long at : ℕ) (well : Well file n prime long at) (s : Set) where
+  -- the rows of the file
   rows : ℕ → ℕ → ℕ
   rows = number file long at
 

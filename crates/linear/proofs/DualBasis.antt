@@ -1,17 +1,14 @@
 -- Dual bases: what they show of the set, how they answer, how they grow.
-use mathlib.Core.Path.{_≡_, refl, sym, ap, _∙_}
-use mathlib.Core.Bool.{Bool, true, false, not, _&&_, _||_}
-use mathlib.Core.Logic.{_⊎_, inl, inr, ⊎-elim}
-use Prim.Native.Nat.{ℕ, zero, suc, _+_, _-_, _*_, _%_, _≤_, _<_}
+use mathlib.Core.Path.{_≡_, sym, _∙_}
+use mathlib.Core.Bool.{true}
+use Prim.Native.Nat.{ℕ, _+_, _-_, _*_, _%_, _<_}
 use native.Mathlib.Omega.{arith}
 use native.Mathlib.Nat.{mod-eq-of-lt}
-use lib.Dec.{eqb}
-use Rattle.std.proofs.shelf.Tests.{cases-bool, cases-eq, ne-eqb}
-use Rattle.sets.specs.Matroid.{Set, pick, weight, with, without}
-use Rattle.linear.specs.Kept.{dot, Dual, rest, fresh}
-use Rattle.linear.proofs.Modulo.{Same, Null, same-refl, same-sym, same-sum, same-multiple, same-from, same-trans, same-is, is-same, same-cancel, same-null, null-sum, null-multiple, null-same, null-p, null-cancel, null-lack, null-is, rest-null, null-rest, one-not-null}
-use Rattle.linear.proofs.Sums.{weight-equal, weight-same, weight-null, weight-times, weight-at, dot-null, dot-mix, dot-mixed, dot-single, dot-plus, dot-alike}
-use Rattle.linear.proofs.Span.{Spans, null-equal, spans-member, spans-through}
+use Rattle.sets.specs.Matroid.{Set, weight, without}
+use Rattle.linear.specs.Kept.{dot, Dual, rest}
+use Rattle.linear.proofs.Modulo.{Same, Null, same-refl, same-sym, same-sum, same-multiple, same-from, same-trans, is-same, same-cancel, null-multiple, null-same, null-cancel, null-lack, null-is, rest-null, one-not-null}
+use Rattle.linear.proofs.Sums.{weight-same, weight-null, weight-at, dot-null, dot-mix}
+use Rattle.linear.proofs.Span.{Spans, null-equal}
 
 -- a factor that is 1 modulo p
 pub same-one : (p c d : ℕ) → Same p d 1 → Same p (c * d) c

@@ -1,18 +1,18 @@
 -- A dual basis with one row more.
-use mathlib.Core.Path.{_≡_, refl, sym, ap, _∙_}
-use mathlib.Core.Bool.{Bool, true, false, not, _&&_, _||_}
-use mathlib.Core.Logic.{_⊎_, inl, inr, ⊎-elim}
-use Prim.Native.Nat.{ℕ, zero, suc, _+_, _-_, _*_, _%_, _≤_, _<_}
+use mathlib.Core.Path.{_≡_, ap, _∙_}
+use mathlib.Core.Bool.{true}
+use mathlib.Core.Logic.{⊎-elim}
+use Prim.Native.Nat.{ℕ, suc, _+_, _-_, _*_, _%_, _<_}
 use native.Mathlib.Omega.{arith}
 use native.Mathlib.Nat.{mod-eq-of-lt}
 use lib.Dec.{eqb}
 use Rattle.std.proofs.shelf.Tests.{cases-eq}
 use Rattle.sets.specs.Matroid.{Set, pick, weight, without}
 use Rattle.linear.specs.Kept.{dot, Dual, rest, fresh}
-use Rattle.linear.proofs.Modulo.{Same, Null, same-refl, same-sym, same-sum, same-multiple, same-from, same-trans, same-is, is-same, same-cancel, same-null, null-sum, null-multiple, null-same, null-cancel, null-lack, null-is, rest-null, null-rest}
+use Rattle.linear.proofs.Modulo.{Same, Null, same-refl, same-sym, same-sum, same-from, same-trans, same-is, same-cancel, same-null, null-multiple, null-same, null-lack, null-is, rest-null, null-rest}
 use Rattle.linear.proofs.Sums.{weight-same, weight-null, weight-times, weight-at, dot-mixed, dot-single, dot-plus, dot-alike}
 use Rattle.linear.proofs.Span.{null-equal}
-use Rattle.linear.proofs.DualBasis.{same-one, own-one, other-null}
+use Rattle.linear.proofs.DualBasis.{same-one, own-one}
 
 -- g is the new functional, found at column q of the rest of row r; the functionals of s below r are corrected by it
 module _

@@ -1,21 +1,21 @@
 -- One row taken into the dual basis, over the lists that the program holds.
-use mathlib.Core.Path.{_≡_, refl, sym, ap, _∙_}
-use mathlib.Core.Bool.{Bool, true, false, not}
+use mathlib.Core.Path.{_≡_, sym, ap, _∙_}
+use mathlib.Core.Bool.{Bool, true, false}
 use mathlib.Core.List.{List}
-use mathlib.Core.Logic.{_⊎_, inl, inr, ⊎-elim}
-use Prim.Native.Nat.{ℕ, zero, suc, _+_, _-_, _*_, _%_, _^_, _≤_, _<_}
+use mathlib.Core.Logic.{inl, inr, ⊎-elim}
+use Prim.Native.Nat.{ℕ, _+_, _-_, _*_, _%_, _^_, _≤_, _<_}
 use native.Mathlib.Omega.{arith}
-use native.Mathlib.Nat.{zero-add, mod-lt}
+use native.Mathlib.Nat.{zero-add}
 use native.Mathlib.Numerals.{add-one}
-use lib.ListN.{length, getD, set}
+use lib.ListN.{getD}
 use Rattle.std.proofs.shelf.Tests.{cases-eq, cases-bool}
-use Rattle.sets.specs.Matroid.{Set, pick, weight}
+use Rattle.sets.specs.Matroid.{Set}
 use Rattle.sets.specs.Bits.{Same-but}
-use Rattle.linear.specs.Rows.{number, spanned, Prime}
+use Rattle.linear.specs.Rows.{spanned, Prime}
 use Rattle.linear.specs.Kept.{dot, rest, fresh, functional, Dual}
-use Rattle.linear.proofs.Modulo.{Same, Null, same-refl, same-sym, same-sum, same-trans, same-from, same-multiple, same-rest, same-is, is-same, rest-null, null-rest}
+use Rattle.linear.proofs.Modulo.{Same, same-trans, same-from, same-multiple, same-rest, rest-null, null-rest}
 use Rattle.linear.proofs.Sums.{dot-equal, dot-turned}
-use Rattle.linear.proofs.Span.{Spans, spanned-gives, spanned-from}
+use Rattle.linear.proofs.Span.{spanned-gives, spanned-from}
 use Rattle.linear.proofs.Inverse.{inverse}
 use Rattle.linear.proofs.DualBasis.{rest-spans, spans-rest}
 use Rattle.linear.proofs.Growth.{dual-more}

@@ -1,17 +1,17 @@
 -- What rows span is a closure, so the rule is a matroid; and the test says the same as the natural reading.
 use mathlib.Core.Path.{_≡_, refl, sym, ap, _∙_}
-use mathlib.Core.Bool.{Bool, true, false, not, _&&_, _||_}
+use mathlib.Core.Bool.{Bool, true, false}
 use mathlib.Core.List.{List}
-use mathlib.Core.Logic.{_⊎_, inl, inr, ⊎-elim, _↔_}
+use mathlib.Core.Logic.{_⊎_, inl, inr, ⊎-elim}
 use Prim.Native.Nat.{ℕ, zero, suc, _+_, _-_, _*_, _%_, _^_, _≤_, _<_}
 use native.Mathlib.Omega.{arith}
 use lib.Dec.{eqb}
 use Rattle.std.proofs.shelf.Tests.{cases-bool, cases-eq, eq-eqb, both-ways}
-use Rattle.sets.specs.Matroid.{Set, pick, weight, with, without, Matroid}
-use Rattle.sets.specs.Closure.{Closure, free}
+use Rattle.sets.specs.Matroid.{Set, weight, with, without, Matroid}
+use Rattle.sets.specs.Closure.{Closure}
 use Rattle.sets.proofs.ClosureTheorem.{closure-matroid, free-each, free-all}
-use Rattle.linear.specs.Rows.{number, spanned, span, allows, Allowed, Well, Prime, Rows-matroid, Rows-natural}
-use Rattle.linear.proofs.Modulo.{Same, Null, same-refl, same-sym, same-sum, same-multiple, same-from, same-trans, same-is, is-same, same-cancel, same-null, null-sum, null-multiple, null-same, null-p, null-cancel, rest-null, null-rest}
+use Rattle.linear.specs.Rows.{number, span, allows, Allowed, Well, Prime, Rows-matroid, Rows-natural}
+use Rattle.linear.proofs.Modulo.{Same, Null, same-sym, same-multiple, same-from, same-trans, same-is, is-same, same-null, null-multiple, null-p, null-cancel, rest-null, null-rest}
 use Rattle.linear.proofs.Sums.{weight-equal, weight-set, weight-times, weight-at}
 use Rattle.linear.proofs.Span.{Spans, null-equal, spans-none, spans-sum, spans-times, spans-same, spans-cancel, spans-member, spans-mix, spans-through, spanned-gives, spanned-from}
 use Rattle.linear.proofs.Inverse.{inverse}
@@ -187,5 +187,6 @@ module _ (file : List ℕ) (n prime long at : ℕ) (well : Well file n prime lon
 pub rows-matroid : Rows-matroid
 rows-matroid file n prime long at well = rule-matroid file n prime long at well
 
+-- and the test is the natural reading
 pub natural : Rows-natural
 natural file n prime long at well s = (natural-passes file n prime long at well s, passes-natural file n prime long at well s)

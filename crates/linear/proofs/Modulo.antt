@@ -1,8 +1,7 @@
 -- Numbers modulo p: which are equal, which are zero.
 use mathlib.Core.Path.{_≡_, refl, sym, ap, _∙_}
-use mathlib.Core.Bool.{Bool, true, false}
-use Prim.Native.Nat.{ℕ, zero, suc, _+_, _-_, _*_, _/_, _%_, _≤_, _<_}
-use native.Mathlib.Nat.{add-mod, mod-mod, mod-lt, mod-eq-of-lt, add-mul-mod-self-left, div-add-mod, zero-mod, mul-mod-right}
+use Prim.Native.Nat.{ℕ, zero, suc, _+_, _-_, _*_, _/_, _%_, _<_}
+use native.Mathlib.Nat.{add-mod, mod-mod, mod-lt, mod-eq-of-lt, add-mul-mod-self-left, div-add-mod, zero-mod}
 use native.Mathlib.Omega.{arith}
 
 -- a and b are equal modulo p
@@ -145,6 +144,7 @@ pub same-is : (p a b : ℕ) → Same p a b → a % p ≡ b % p
 unfolding Same
 same-is p a b h = h
 
+-- an equation of rests makes numbers equal modulo p
 pub is-same : (p a b : ℕ) → a % p ≡ b % p → Same p a b
 unfolding Same
 is-same p a b h = h

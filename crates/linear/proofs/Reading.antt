@@ -1,5 +1,5 @@
 -- Reading a rule of rows: what it answers, and that a refusal is the first of all faults.
-use mathlib.Core.Path.{_≡_, refl, sym, ap, _∙_}
+use mathlib.Core.Path.{_≡_, refl, ap, _∙_}
 use mathlib.Core.Bool.{Bool, true, false, not, _&&_, cond}
 use mathlib.Core.List.{List}
 use mathlib.Core.Logic.{_⊎_, inl, inr, ⊎-elim}
@@ -7,7 +7,7 @@ use Prim.Native.Nat.{ℕ, zero, suc, _+_, _-_, _*_, _%_, _≤_, _<_}
 use native.Mathlib.Omega.{arith}
 use lib.Dec.{eqb, ltb, leb}
 use lib.ListN.{length, getD}
-use Rattle.std.proofs.shelf.Tests.{ltb-true, ltb-false, leb-true, leb-false, le-ltb, lt-ltb, lt-leb, le-leb, cases-lt, cases-eq, cases-bool, and-parts, and-from, not-true, not-false, eqb-true, eq-eqb, both-ways}
+use Rattle.std.proofs.shelf.Tests.{ltb-true, leb-true, leb-false, lt-ltb, lt-leb, le-leb, cases-lt, cases-eq, cases-bool, and-parts, and-from, not-true, not-false, eqb-true, eq-eqb, both-ways}
 use Rattle.std.specs.declared.result.Result.{Result}
 use Rattle.std.specs.declared.result.Result.the-variants.{Ok, Err}
 use Rattle.sets.specs.declared.refusal.Refusal.{Refusal}
@@ -15,7 +15,7 @@ use Rattle.sets.specs.declared.refusal.Refusal.the-variants.{Length, Row}
 use Rattle.sets.specs.declared.refusal.Source.the-variants.{Offers}
 use Rattle.sets.specs.Refusals.{First, Precedes, place}
 use Rattle.linear.specs.declared.Shape.{Shape}
-use Rattle.linear.specs.Rows.{some, Prime, Well}
+use Rattle.linear.specs.Rows.{Prime, Well}
 use Rattle.linear.specs.Reading.{divisible, small-prime, good-length, read, read-numbers, shape-at, end, Fault, Reads-well, Refuses-first}
 use Rattle.linear.specs.Reading.Fault.{short, no-prime, bad-length, too-large}
 use Rattle.linear.proofs.Span.{some-from, some-gives}
@@ -36,6 +36,7 @@ pub divisible-from : (p d : ℕ) → 1 < d → d < p → p % d ≡ 0 → divisib
 divisible-from p d a b e =
     some-from p (λ x. ltb 1 x && eqb (p % x) 0) d b (and-from (ltb 1 d) (eqb (p % d) 0) (lt-ltb 1 d a) (eq-eqb (p % d) 0 e))
 
+-- and finds none, if there is none
 pub divisible-never : (p : ℕ) → ((d : ℕ) → 1 < d → d < p → p % d ≡ 0 → ⊥) → divisible p ≡ false
 divisible-never p h = ⊎-elim (λ y. absurd (found y)) (λ y. y) (cases-bool (divisible p))
   where
@@ -56,6 +57,7 @@ prime-passes p h l =
     tested : (a b c : Bool) → a ≡ true → b ≡ true → c ≡ false → (a && b && not c) ≡ true
     tested a b c f g h = grind arith
 
+-- what passes it is a prime
 pub passes-prime : (p : ℕ) → small-prime p ≡ true → Prime p × (p ≤ 251)
 passes-prime p h =
     let t = parts (ltb 1 p) (leb p 251) (divisible p) h in
@@ -71,6 +73,7 @@ passes-prime p h =
 pub length-passes : (l : ℕ) → 1 ≤ l → l ≤ 64 → good-length l ≡ true
 length-passes l a b = and-from (ltb 0 l) (leb l 64) (lt-ltb 0 l a) (le-leb l 64 b)
 
+-- what passes it is from 1 to 64
 pub passes-length : (l : ℕ) → good-length l ≡ true → (1 ≤ l) × (l ≤ 64)
 passes-length l h =
     let t = and-parts (ltb 0 l) (leb l 64) h in
@@ -147,6 +150,7 @@ module _ (file : List ℕ) (shape : Shape) where
       late k rest zero l = let q : at + 0 ≡ at = omega arith in rw q one
       late k rest (suc j) l = let q : at + suc j ≡ at + 1 + j = omega arith in rw q (rest j (omega arith))
 
+  -- a refusal of numbers is such
   numbers-stop : (left at : ℕ) (e : Refusal) → at ≤ length file → read-numbers file shape left at ≡ Err e → Stop left at e
   numbers-stop zero at e l h = absurd (let z : _≡_ {A = ℕ} 0 1 = cc in omega arith)
   numbers-stop (suc left) at e l h =
@@ -160,9 +164,11 @@ module _ (file : List ℕ) (shape : Shape) where
       (stopped (leb (length file) at) (Length Offers (length file)) _ e h)
 
 module _ (file : List ℕ) (n p : ℕ) where
+  -- the prime that the header says
   abbrev prime : ℕ
   prime = getD file p 0
 
+  -- the length that the header says
   abbrev long : ℕ
   long = getD file (p + 1) 0
 

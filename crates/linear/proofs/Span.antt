@@ -1,15 +1,15 @@
 -- What a set of rows spans: closed under sums and multiples, and transitive.
-use mathlib.Core.Path.{_≡_, refl, sym, ap, _∙_}
-use mathlib.Core.Bool.{Bool, true, false, not, _&&_, _||_}
-use mathlib.Core.Logic.{_⊎_, inl, inr, ⊎-elim}
-use Prim.Native.Nat.{ℕ, zero, suc, _+_, _-_, _*_, _%_, _≤_, _<_}
+use mathlib.Core.Path.{_≡_, refl, ap}
+use mathlib.Core.Bool.{Bool, true, false}
+use mathlib.Core.Logic.{⊎-elim}
+use Prim.Native.Nat.{ℕ, zero, suc, _+_, _-_, _*_, _%_, _<_}
 use native.Mathlib.Omega.{arith}
 use native.Mathlib.Nat.{mod-lt}
 use lib.Dec.{eqb}
-use Rattle.std.proofs.shelf.Tests.{cases-bool, cases-eq, eq-eqb, ne-eqb, eqb-true, and-parts, and-from, or-cases, or-left, or-right}
-use Rattle.sets.specs.Matroid.{Set, pick, weight, with, without}
+use Rattle.std.proofs.shelf.Tests.{cases-eq, eq-eqb, ne-eqb, eqb-true, and-parts, and-from, or-cases, or-left, or-right}
+use Rattle.sets.specs.Matroid.{Set, pick, weight, without}
 use Rattle.linear.specs.Rows.{vanishes, some, spanned}
-use Rattle.linear.proofs.Modulo.{Same, Null, same-refl, same-sym, same-sum, same-multiple, same-from, same-more, same-rest, same-null, same-trans, null-zero, null-sum, null-multiple, null-same, null-p, null-cancel, null-rest, rest-null}
+use Rattle.linear.proofs.Modulo.{Same, Null, same-refl, same-sym, same-sum, same-multiple, same-from, same-more, same-rest, same-trans, null-zero, null-sum, null-multiple, null-same, null-p, null-rest, rest-null}
 use Rattle.linear.proofs.Sums.{weight-equal, weight-null, weight-sum, weight-times, weight-at}
 
 -- multiples of the rows below m of s that bring the row t to zero, modulo p, at its first l places
@@ -155,6 +155,7 @@ vanishes-from p (suc l) t pos h =
     and-from (eqb (t l % p) 0) (vanishes p l t) (eq-eqb (t l % p) 0 (null-rest p (t l) pos (h l (omega arith))))
     (vanishes-from p l t pos (λ j k. h j (omega arith)))
 
+-- and each place of it
 pub vanishes-gives : (p l : ℕ) (t : ℕ → ℕ) → vanishes p l t ≡ true → (j : ℕ) → j < l → Null p (t j)
 vanishes-gives p zero t h j k = absurd (omega arith)
 vanishes-gives p (suc l) t h j k =

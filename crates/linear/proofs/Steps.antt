@@ -1,15 +1,15 @@
 -- Steps of loops: one number more.
-use mathlib.Core.Path.{_≡_, refl, sym, ap, _∙_}
+use mathlib.Core.Path.{_≡_, sym, ap, _∙_}
 use mathlib.Core.Bool.{Bool, true, false}
 use mathlib.Core.List.{List}
-use mathlib.Core.Logic.{_⊎_, ⊎-elim}
+use mathlib.Core.Logic.{⊎-elim}
 use lib.Dec.{eqb}
 use lib.ListN.{length, getD, set}
 use Rattle.std.proofs.shelf.Lists.{getD-set-same, getD-set-other}
 use Rattle.std.proofs.shelf.Tests.{cases-eq}
-use Prim.Native.Nat.{ℕ, zero, suc, _+_, _-_, _*_, _%_, _^_, _≤_, _<_}
+use Prim.Native.Nat.{ℕ, _+_, _-_, _*_, _%_, _^_, _≤_, _<_}
 use native.Mathlib.Omega.{arith}
-use native.Mathlib.Nat.{zero-add, add-zero, mod-lt, mod-eq-of-lt, pow-suc}
+use native.Mathlib.Nat.{zero-add, add-zero, mod-eq-of-lt, pow-suc}
 use native.Mathlib.Numerals.{add-one}
 use Rattle.std.proofs.shelf.Bits.{mul-add-lt, mul-le}
 use Rattle.sets.specs.Matroid.{Set, pick, weight}
@@ -25,6 +25,7 @@ dot-more j f t = rw add-one
 pub weight-in : (m : ℕ) (w : ℕ → ℕ) (s : Set) → s m ≡ true → weight (m + 1) w s ≡ w m + weight m w s
 weight-in m w s h = rw (add-one, h)
 
+-- or by none, where the element is outside
 pub weight-out : (m : ℕ) (w : ℕ → ℕ) (s : Set) → s m ≡ false → weight (m + 1) w s ≡ weight m w s
 weight-out m w s h = rw (add-one, h) (omega arith)
 
@@ -58,6 +59,7 @@ grown-in p t m w s u h e =
     let f = weight-in m w s h in
     same-is p (u + w m) (t + weight m w s + w m) b ∙ ap (λ x. x % p) (omega arith)
 
+-- the same where the element is outside
 pub grown-out : (p t m : ℕ) (w : ℕ → ℕ) (s : Set) (u : ℕ) → s m ≡ false → u ≡ (t + weight m w s) % p → u ≡ (t + weight (m + 1) w s) % p
 grown-out p t m w s u h e = e ∙ ap (λ x. (t + x) % p) (sym (weight-out m w s h))
 
@@ -81,6 +83,7 @@ rest-in p l rows fs m s t xs ys zs b v in-s is value old new same j h =
     ap (λ (x : List ℕ). getD x j 0) same ∙ new j h ∙ ap (λ x. (getD xs j 0 + (p - x) * rows m j) % p) value
     ∙ grown-in p (t j) m (λ y. (p - dot l (fs y) t % p) * rows y j) s (getD xs j 0) (sym in-s ∙ is) (old j h)
 
+-- the same where the offer is outside the set
 pub rest-out :
     (p l : ℕ) (rows fs : ℕ → ℕ → ℕ) (m : ℕ) (s : Set) (t : ℕ → ℕ) (xs zs : List ℕ) (b : Bool) →
     b ≡ s m → b ≡ false → ((j : ℕ) → j < l → getD xs j 0 ≡ rest p l rows fs m s t j % p) → zs ≡ xs →
@@ -100,6 +103,7 @@ fresh-in p l rows state m s q scale xs ys zs b v in-s is value old new same j h 
     ap (λ (x : List ℕ). getD x j 0) same ∙ e ∙ ap (λ x. (getD xs j 0 + (p - scale * x % p) * getD state (65 * m + j) 0) % p) value
     ∙ grown-in p (pick (eqb j q) scale 0) m (λ z. (p - scale * rows z q % p) * functional state z j) s (getD xs j 0) (sym in-s ∙ is) (old j h)
 
+-- the same where the offer is outside the set
 pub fresh-out :
     (p l : ℕ) (rows : ℕ → ℕ → ℕ) (state : List ℕ) (m : ℕ) (s : Set) (q scale : ℕ) (xs zs : List ℕ) (b : Bool) →
     b ≡ s m → b ≡ false → ((j : ℕ) → j < l → getD xs j 0 ≡ fresh p rows (functional state) m s q scale j % p) → zs ≡ xs →

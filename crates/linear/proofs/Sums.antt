@@ -1,8 +1,8 @@
 -- Sums over the elements of a set, and the value of a functional at a row.
 use mathlib.Core.Path.{_≡_, refl, sym, ap, _∙_}
-use mathlib.Core.Bool.{Bool, true, false, not, _&&_}
-use mathlib.Core.Logic.{_⊎_, inl, inr, ⊎-elim}
-use Prim.Native.Nat.{ℕ, zero, suc, _+_, _-_, _*_, _%_, _≤_, _<_}
+use mathlib.Core.Bool.{Bool, true, false}
+use mathlib.Core.Logic.{⊎-elim}
+use Prim.Native.Nat.{ℕ, zero, suc, _+_, _*_, _≤_, _<_}
 use native.Mathlib.Omega.{arith}
 use lib.Dec.{eqb}
 use Rattle.std.proofs.shelf.Tests.{cases-bool, cases-eq, eq-eqb, ne-eqb}
@@ -14,6 +14,7 @@ use Rattle.linear.proofs.Modulo.{Same, Null, same-refl, same-sum, same-multipl
 step-in : (m : ℕ) (w : ℕ → ℕ) (s : Set) → s m ≡ true → weight (suc m) w s ≡ w m + weight m w s
 step-in m w s h = rw h
 
+-- an element outside adds nothing
 step-out : (m : ℕ) (w : ℕ → ℕ) (s : Set) → s m ≡ false → weight (suc m) w s ≡ weight m w s
 step-out m w s h = rw h (omega arith)
 

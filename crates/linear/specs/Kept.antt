@@ -1,6 +1,6 @@
 -- What is kept for a set of rows: a dual basis, and which rows the set spans.
 use mathlib.Core.Path.{_≡_}
-use mathlib.Core.Bool.{Bool, true, false}
+use mathlib.Core.Bool.{true}
 use mathlib.Core.List.{List}
 use Prim.Native.Nat.{ℕ, zero, suc, _+_, _-_, _*_, _%_, _≤_, _<_}
 use lib.Dec.{eqb}
@@ -30,9 +30,11 @@ fresh p rows functionals m s q scale j = pick (eqb j q) scale 0 + weight m (λ z
 abbrev pub kept-length : ℕ → ℕ
 kept-length n = 65 * n
 
+-- number j of the functional of offer y
 abbrev pub functional : List ℕ → ℕ → ℕ → ℕ
 functional state y j = getD state (65 * y + j) 0
 
+-- 1 where the set spans the row of offer x, else 0
 abbrev pub flag : List ℕ → ℕ → ℕ
 flag state x = getD state (65 * x + 64) 0
 

@@ -1,10 +1,10 @@
 // A dual basis of a set of rows, grown row by row.
 ghost use mathlib.Core.Path.{_≡_};
-ghost use mathlib.Core.Bool.{Bool, true, false, not};
-ghost use Prim.Native.Nat.{ℕ, _+_, _-_, _*_, _%_, _^_, _<_, _≤_};
+ghost use mathlib.Core.Bool.{true, false, not};
+ghost use Prim.Native.Nat.{ℕ, _+_, _-_, _*_, _%_, _<_, _≤_};
 ghost use lib.Dec.{eqb};
 ghost use lib.ListN.{length, getD};
-ghost use Rattle.sets.specs.Bits.{marked, row-words, Same-but};
+ghost use Rattle.sets.specs.Bits.{marked, row-words};
 ghost use Rattle.sets.specs.Matroid.{pick};
 ghost use Rattle.linear.specs.Rows.{number, span, spanned, Well};
 ghost use Rattle.linear.specs.Kept.{dot, functional, flag, kept-length, rest, fresh, Dual};

@@ -1,12 +1,12 @@
 // Rows of numbers modulo a prime: a set of offers is allowed if no row of it is a sum of multiples of its other rows.
 ghost use mathlib.Core.Path.{_≡_};
-ghost use mathlib.Core.Bool.{Bool, true, false};
-ghost use Prim.Native.Nat.{ℕ, _+_, _*_, _<_, _≤_};
+ghost use mathlib.Core.Bool.{true, false};
+ghost use Prim.Native.Nat.{_+_, _*_, _<_, _≤_};
 ghost use lib.ListN.{length};
 ghost use Rattle.sets.specs.Matroid.{with, without};
 ghost use Rattle.sets.specs.Bits.{marked, row-words};
 ghost use Rattle.linear.specs.Rows.{allows, Well};
-ghost use Rattle.linear.specs.Reading.{divisible, small-prime, good-length, read, read-numbers};
+ghost use Rattle.linear.specs.Reading.{divisible, small-prime, read, read-numbers};
 ghost use Rattle.linear.specs.Kept.{kept-length, Ready};
 use basis::insert;
 use basis::note_spanned;

@@ -1,9 +1,8 @@
 // Rows and functionals as numbers modulo a prime in lent words.
 ghost use mathlib.Core.Path.{_≡_};
-ghost use mathlib.Core.Bool.{Bool, true, false};
 ghost use Prim.Native.Nat.{ℕ, _+_, _-_, _*_, _%_, _^_, _<_, _≤_};
 ghost use lib.ListN.{length, getD};
-ghost use Rattle.sets.specs.Bits.{marked, row-words, Same-but};
+ghost use Rattle.sets.specs.Bits.{marked, Same-but};
 ghost use Rattle.linear.specs.Rows.{number, Well};
 ghost use Rattle.linear.specs.Kept.{dot, functional, kept-length};
 use sets::words;

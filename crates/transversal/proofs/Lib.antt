@@ -7,6 +7,7 @@ pub mod Kept
 pub mod Laws
 pub mod Matchings
 pub mod Pairing
+pub mod Reading
 pub mod RowFacts
 pub mod RowTurns
 pub mod Turns

@@ -1,5 +1,6 @@
 // Rules of volunteers: each offer of an allowed set has a volunteer of its own who can look after it.
 mod matching;
+mod parse;
 mod rows;
 
 ghost use mathlib.Core.Path.{_≡_};
@@ -8,8 +9,20 @@ ghost use Prim.Native.Nat.{ℕ, _+_, _*_, _<_, _≤_};
 ghost use lib.ListN.{length};
 ghost use Rattle.sets.specs.Bits.{marked, row-words};
 ghost use Rattle.sets.specs.Matroid.{with, without};
-ghost use Rattle.transversal.specs.Volunteers.{allows, Well, Ready, kept-length, Reading-agrees, Volunteers-matroid};
+ghost use Rattle.transversal.specs.Reading.{Reads-well, Refuses-first};
+ghost use Rattle.transversal.specs.Volunteers.{can-tend, allows, Well, Ready, kept-length, Reading-agrees, Volunteers-matroid};
+pub use parse::read;
+use sets::bytes;
 use sets::words::contains;
+
+// Can volunteer v look after offer x?
+pub fn can_tend(file: &[u8], n: usize, volunteers: usize, at: usize, v: usize, x: usize) -> bool
+    requires small { ⌜ n ≤ 600 ⌝ ∗ ⌜ v < volunteers ⌝ ∗ ⌜ x < n ⌝ }
+    requires well { ⌜ Well (now file) n volunteers at ⌝ }
+    ensures { λ r. ⌜ r ≡ can-tend (now (file .entry)) n at v x ⌝ }
+{
+    bytes::contains(file, at + v * ((n + 7) / 8), x)
+}
 
 // Has each offer of the set a volunteer of its own? Then what is kept in `state` is right for the set; else `state` is free.
 pub fn independent(
@@ -53,7 +66,8 @@ pub fn can_add(
     requires kept { ⌜ Ready (now file) n volunteers at (marked (now set)) (now state) ⌝ }
     ensures { λ r. ⌜ r ≡ allows (now (file .entry)) n volunteers at (with (marked (now (set .entry))) x) ⌝ }
 {
-    contains(state, n * ((n + 31) / 32), x)
+    let free_row = n * ((n + 31) / 32);
+    contains(state, free_row, x)
 }
 
 // Is the set with x in place of y allowed?
@@ -72,7 +86,8 @@ pub fn can_exchange(
     requires kept { ⌜ Ready (now file) n volunteers at (marked (now set)) (now state) ⌝ }
     ensures { λ r. ⌜ r ≡ allows (now (file .entry)) n volunteers at (with (without (marked (now (set .entry))) y) x) ⌝ }
 {
-    contains(state, n * ((n + 31) / 32), x) || contains(state, y * ((n + 31) / 32), x)
+    let width = (n + 31) / 32;
+    contains(state, n * width, x) || contains(state, y * width, x)
 }
 
 // A set passes the test just where each of its offers has a volunteer of its own.
@@ -85,6 +100,20 @@ pub fn test_says_volunteers() -> u8
 // A well-formed rule of volunteers is a matroid.
 pub fn volunteers_are_a_matroid() -> u8
     ensures { λ _. ⌜ Volunteers-matroid ⌝ }
+{
+    0
+}
+
+// A rule is read just where it is well formed.
+pub fn reads_what_is_well() -> u8
+    ensures { λ _. ⌜ Reads-well ⌝ }
+{
+    0
+}
+
+// A refusal is the first of all faults.
+pub fn refuses_the_first_fault() -> u8
+    ensures { λ _. ⌜ Refuses-first ⌝ }
 {
     0
 }

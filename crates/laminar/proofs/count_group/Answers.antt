@@ -3,9 +3,10 @@ use mathlib.Core.Bool.{_&&_}
 use native.Mathlib.Omega.{arith}
 use Rattle.sets.specs.Bits.{marked}
 use Rattle.sets.specs.Matroid.{both}
+use Rattle.sets.proofs.FiniteSets.{size-bound}
 use Rattle.laminar.specs.Limits.{in-group}
 use Rattle.laminar.proofs.Kept.{head-row}
-use Rattle.laminar.proofs.Sizes.{size-most, size-in, size-out}
+use Rattle.laminar.proofs.Sizes.{size-in, size-out}
 use Rattle.laminar.proofs.count_group.Needs as need
 use Rattle.laminar.proofs.count_group.Needs.{then-both, else-both}
 
@@ -14,7 +15,7 @@ add-held c =
     omega (
       arith,
       c .loop-i .inv,
-      size-most (c .loop-i .i) (both (in-group (c .args .file .now) (c .args .n) (c .args .at) (c .args .g)) (marked (c .args .set .now))),
+      size-bound (c .loop-i .i) (both (in-group (c .args .file .now) (c .args .n) (c .args .at) (c .args .g)) (marked (c .args .set .now))),
     )
 
 pub loop-i-again : need.loop-i-again

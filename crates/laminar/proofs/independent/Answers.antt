@@ -1,13 +1,12 @@
-use mathlib.Core.Path.{_≡_, refl, sym, _∙_, ap, subst}
+use mathlib.Core.Path.{refl, sym, _∙_, subst}
 use mathlib.Core.Bool.{false}
 use mathlib.Core.List.{List}
 use Prim.Native.Nat.{ℕ, _+_, _≤_}
 use native.Mathlib.Omega.{arith}
-use lib.ListN.{length}
 use Rattle.std.proofs.shelf.Tests.{both-ways}
 use Rattle.sets.specs.Bits.{marked}
 use Rattle.sets.specs.Matroid.{size, both}
-use Rattle.laminar.specs.Limits.{limit, in-group, kept-length, Ready}
+use Rattle.laminar.specs.Limits.{limit, in-group, Ready}
 use Rattle.laminar.proofs.Steps.{ends-before}
 use Rattle.laminar.proofs.Moves.{too-many}
 use Rattle.laminar.proofs.Keeping.{ready-none, ready-full, ready-open}
@@ -21,23 +20,23 @@ loop-g-holds c =
 
 pub count-group-held-requires : need.count-group-held-requires
 count-group-held-requires c κs =
-    omega (arith, ends-before (c .args .n) (c .args .at) (c .loop-g .g) (c .args .groups) (c .loop-g-test .taken), c .pre .rule .1 .whole)
+    omega (arith, ends-before (c .args .n) (c .args .at) (c .loop-g .g) (c .args .groups) (c .loop-g-test .taken), c .pre .well .0 .whole)
 
 pub limit-most-requires : need.limit-most-requires
 limit-most-requires c κs =
-    omega (arith, ends-before (c .args .n) (c .args .at) (c .loop-g .g) (c .args .groups) (c .loop-g-test .taken), c .pre .rule .1 .whole)
+    omega (arith, ends-before (c .args .n) (c .args .at) (c .loop-g .g) (c .args .groups) (c .loop-g-test .taken), c .pre .well .0 .whole)
 
 pub returns-then-held-most : need.returns-then-held-most
 returns-then-held-most c = record {
   answers = sym (too-many (c .args .n) (in-group (c .args .file .now) (c .args .n) (c .args .at)) (limit (c .args .file .now) (c .args .n) (c .args .at))
       (c .args .groups) (marked (c .args .set .now)) (c .loop-g .g) (c .loop-g-test .taken)
       (omega (arith, c .if-held-most .taken, c .count-group-held .ensures, c .limit-most .ensures)));
-  keeps = λ e. absurd (both-ways false refl e);
+  kept = λ e. absurd (both-ways false refl e);
 }
 
 pub mark-group-requires : need.mark-group-requires
 mark-group-requires c κs =
-    omega (arith, ends-before (c .args .n) (c .args .at) (c .loop-g .g) (c .args .groups) (c .loop-g-test .taken), c .pre .rule .1 .whole, c .pre .rule .1 .few)
+    omega (arith, ends-before (c .args .n) (c .args .at) (c .loop-g .g) (c .args .groups) (c .loop-g-test .taken), c .pre .well .0 .whole, c .pre .well .0 .few)
 
 pub loop-g-again : need.loop-g-again
 loop-g-again c =

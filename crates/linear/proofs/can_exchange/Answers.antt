@@ -1,6 +1,6 @@
 -- Whether x can be added, and else the functional of y, tell.
-use mathlib.Core.Path.{_≡_, sym, ap, _∙_}
-use mathlib.Core.Bool.{Bool, true, false, not, _||_}
+use mathlib.Core.Path.{sym, ap, _∙_}
+use mathlib.Core.Bool.{not}
 use lib.Dec.{eqb}
 use Rattle.sets.specs.Bits.{marked}
 use Rattle.linear.proofs.Answered.{exchanges, or-first, or-second}

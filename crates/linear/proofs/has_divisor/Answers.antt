@@ -1,6 +1,6 @@
 -- The divisor found, or every number tried.
 use native.Mathlib.Omega.{arith}
-use mathlib.Core.Path.{_≡_, sym}
+use mathlib.Core.Path.{sym}
 use Rattle.linear.proofs.Reading.{divisible-from, divisible-never}
 use Rattle.linear.proofs.has_divisor.Needs as need
 

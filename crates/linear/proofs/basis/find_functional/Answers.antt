@@ -1,5 +1,5 @@
 -- The functional is corrected at one row of the set at a time.
-use mathlib.Core.Path.{_≡_, _∙_}
+use mathlib.Core.Path.{_∙_}
 use lib.Dec.{eqb}
 use Prim.Native.Nat.{_-_, _*_, _%_}
 use Rattle.sets.specs.Matroid.{pick}

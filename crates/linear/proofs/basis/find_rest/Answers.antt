@@ -1,5 +1,5 @@
 -- The sum grows by one row of the set at a time.
-use mathlib.Core.Path.{_≡_, _∙_}
+use mathlib.Core.Path.{_∙_}
 use Rattle.sets.specs.Bits.{marked}
 use Rattle.linear.specs.Rows.{number}
 use Prim.Native.Nat.{_-_, _*_, _%_}

@@ -1,6 +1,5 @@
 -- Each turn makes one power more.
-use mathlib.Core.Path.{_≡_, sym}
-use Prim.Native.Nat.{_%_}
+use mathlib.Core.Path.{sym}
 use native.Mathlib.Nat.{mod-eq-of-lt, pow-zero}
 use Rattle.linear.proofs.Steps.{power-more}
 use Rattle.linear.proofs.vectors.inverse.Needs as need

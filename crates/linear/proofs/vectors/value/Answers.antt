@@ -1,10 +1,10 @@
 -- Each turn adds one product of a word and a byte.
-use mathlib.Core.Path.{_≡_, ap}
-use Prim.Native.Nat.{_≤_, _<_, _*_, _+_, _^_}
+use mathlib.Core.Path.{ap}
+use Prim.Native.Nat.{_<_, _*_, _+_, _^_}
 use native.Mathlib.Omega.{arith}
 use lib.ListN.{getD}
 use Rattle.linear.specs.Rows.{number}
-use Rattle.linear.specs.Kept.{dot, functional}
+use Rattle.linear.specs.Kept.{functional}
 use Rattle.linear.proofs.Steps.{dot-more, product-low}
 use Rattle.linear.proofs.vectors.value.Needs as need
 

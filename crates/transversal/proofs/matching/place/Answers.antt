@@ -23,3 +23,39 @@ loop-queue-less c = shift-write _ _ _ _ _ (at (c .reach .last .queue)) (at (c .r
 
 pub loop-queue-again : need.loop-queue-again
 loop-queue-again c = shift-write _ _ _ _ _ (at (c .reach .last .queue)) (at (c .reach .last .via)) (c .loop-queue .tends) (c .loop-queue .owner) (c .loop-queue .y) (c .loop-queue .inv) (omega arith) (omega arith) (omega arith) (omega arith) .0
+
+pub offset-via-y : need.offset-via-y
+offset-via-y c = let y = c .loop-queue .inv .inside in let s = c .pre .small in omega arith
+
+pub index-via-y : need.index-via-y
+index-via-y c = let y = c .loop-queue .inv .inside in let s = c .pre .small in omega arith
+
+pub cast-v : need.cast-v
+cast-v c = let r = c .loop-queue .inv in let l = r .led .short in let b = r .led .by (c .loop-queue .y) (r .inside) (r .come) .0 in omega arith
+
+pub offset-queue-via : need.offset-queue-via
+offset-queue-via c = let r = c .loop-queue .inv in let l = r .led .short in let b = r .led .by (c .loop-queue .y) (r .inside) (r .come) .0 in omega arith
+
+pub index-queue-via : need.index-queue-via
+index-queue-via c = let r = c .loop-queue .inv in let l = r .led .short in let b = r .led .by (c .loop-queue .y) (r .inside) (r .come) .0 in omega arith
+
+pub cast-z : need.cast-z
+cast-z c = let v = shift-low _ _ _ _ _ (at (c .reach .last .queue)) (at (c .reach .last .via)) (c .loop-queue .tends) (c .loop-queue .owner) (c .loop-queue .y) (c .loop-queue .inv) (omega arith) (omega arith) in let s = c .pre .small in omega arith
+
+pub offset-owner-v : need.offset-owner-v
+offset-owner-v c = let v = shift-low _ _ _ _ _ (at (c .reach .last .queue)) (at (c .reach .last .via)) (c .loop-queue .tends) (c .loop-queue .owner) (c .loop-queue .y) (c .loop-queue .inv) (omega arith) (omega arith) in let s = c .pre .small in omega arith
+
+pub cast-owner : need.cast-owner
+cast-owner c = let y = c .loop-queue .inv .inside in let s = c .pre .small in omega arith
+
+pub cast-owner-in-loop-queue : need.cast-owner-in-loop-queue
+cast-owner-in-loop-queue c = let v = shift-low _ _ _ _ _ (at (c .reach .last .queue)) (at (c .reach .last .via)) (c .loop-queue .tends) (c .loop-queue .owner) (c .loop-queue .y) (c .loop-queue .inv) (omega arith) (omega arith) in let s = c .pre .small in omega arith
+
+pub offset-owner-v-in-loop-queue : need.offset-owner-v-in-loop-queue
+offset-owner-v-in-loop-queue c = let v = shift-low _ _ _ _ _ (at (c .reach .last .queue)) (at (c .reach .last .via)) (c .loop-queue .tends) (c .loop-queue .owner) (c .loop-queue .y) (c .loop-queue .inv) (omega arith) (omega arith) in let s = c .pre .small in omega arith
+
+pub offset-tends-y : need.offset-tends-y
+offset-tends-y c = let y = c .loop-queue .inv .inside in let s = c .pre .small in omega arith
+
+pub index-tends-y : need.index-tends-y
+index-tends-y c = let y = c .loop-queue .inv .inside in omega arith
