@@ -19,5 +19,7 @@ pub mod Settling
 pub mod Shortcuts
 pub mod Shorten
 pub mod ShortestLabels
+pub mod Skips
 pub mod SmallPaths
+pub mod Verdicts
 pub mod Walks

@@ -1,16 +1,14 @@
 -- The labels while the arcs from one element m are followed head by head.
 use mathlib.Core.Path.{_≡_, refl, sym, ap, subst, _∙_}
-use mathlib.Core.List.{List}
 use mathlib.Core.Bool.{Bool, true, false, not, _&&_, _||_}
 use mathlib.Core.Logic.{_⊎_, inl, inr, ⊎-elim}
 use Prim.Native.Nat.{ℕ, zero, suc, _+_, _-_, _*_, _≤_, _<_}
 use native.Mathlib.Omega.{arith}
 use lib.Dec.{eqb, ltb, leb}
-use Rattle.std.proofs.shelf.Tests.{cases-bool, cases-eq, both-ways, lt-ltb, le-ltb, eq-eqb, ne-eqb}
-use Rattle.sets.specs.Matroid.{pick, Set}
+use Rattle.std.proofs.shelf.Tests.{cases-bool, cases-eq, both-ways, lt-ltb, le-ltb, eq-eqb, ne-eqb, cases-lt, and-right}
+use Rattle.sets.specs.Matroid.{pick, Set, outside}
 use Rattle.exchange.specs.Round.{Before}
-use Rattle.sets.specs.Bits.{marked}
-use Rattle.exchange.specs.Graph.{at, cost, takes, bettered, Changed}
+use Rattle.exchange.specs.Graph.{cost, takes, bettered, Changed}
 
 -- the heads below i have been followed
 unfoldable pub Partly : ℕ → (ℕ → ℕ → Bool) → (ℕ → ℕ → ℕ) → Set → Set → (ℕ → ℕ) → (ℕ → ℕ) → (ℕ → ℕ) → ℕ → ℕ →
@@ -61,22 +59,9 @@ unfolding Partly
 partly-all n to c settled reached d k back m i after e l ahead h q u p =
     same-which _ _ _ _ _ _ _ _ _ _ _ _ _ u (below-all u i n (bettered to c settled reached d k m u) p q) (h u p)
 
--- one head more, where the arc is not there or the head is settled
+-- a head more that is not bettered
 one-more : (u i : ℕ) (b : Bool) → (u ≡ i → b ≡ false) → (ltb u i && b) ≡ (ltb u (i + 1) && b)
 one-more u i b h = grind arith
-
-pub partly-skip : (n : ℕ) (to : ℕ → ℕ → Bool) (c : ℕ → ℕ → ℕ) (settled reached : Set) (d k back : ℕ → ℕ) (m i : ℕ) (after : Set) (e l ahead : ℕ → ℕ) →
-    (to m i && not (settled i)) ≡ false →
-    Partly n to c settled reached d k back m i after e l ahead → Partly n to c settled reached d k back m (i + 1) after e l ahead
-unfolding Partly
-partly-skip n to c settled reached d k back m i after e l ahead off h u p =
-    same-which _ _ _ _ _ _ _ _ _ _ _ _ _ u (one-more u i (bettered to c settled reached d k m u) (λ q. at-i q)) (h u p)
-  where
-    at-i : u ≡ i → bettered to c settled reached d k m u ≡ false
-    at-i q = off-there (takes reached d k u (d m + c m u) (k m + 1)) (ap (λ (x : ℕ). to m x && not (settled x)) q ∙ off)
-      where
-        off-there : {a : Bool} (b : Bool) → a ≡ false → (a && b) ≡ false
-        off-there b e = grind arith
 
 -- two changes one after the other, where at most one of them concerns u
 then-none : (e f : ℕ → ℕ) (l m : ℕ) (which other all reached now after : Set) (d k back d′ k′ back′ d″ k″ back″ : ℕ → ℕ) (u : ℕ) →
@@ -151,30 +136,23 @@ pub cost-by-side : (s : Set) (w a : ℕ → ℕ) (v u : ℕ) (inside : Bool) (x 
 unfolding cost
 cost-by-side s w a v u inside x paid p q = q ∙ ap (λ (b : Bool). paid + pick b (a v - a u) ((w u + a v) - (w v + a u))) p
 
--- one step on lent memory, where the lists after it go by other names
-pub step-lists : (n : ℕ) (to : ℕ → ℕ → Bool) (c : ℕ → ℕ → ℕ) (settled reached : Set) (d k back : ℕ → ℕ) (m i : ℕ)
-    (rs ds ks bs rs′ ds′ ks′ bs′ rs″ ds″ ks″ bs″ : List ℕ) (x : ℕ) →
-    i < n → to m i ≡ true → settled i ≡ false → x ≡ d m + c m i →
-    ((j : ℕ) → Changed (λ _. x) (k m + 1) m (λ j. eqb j i && takes (marked rs) (at ds) (at ks) i x (k m + 1))
-    (marked rs) (marked rs′) (at ds) (at ks) (at bs) (at ds′) (at ks′) (at bs′) j) →
-    rs″ ≡ rs′ → ds″ ≡ ds′ → ks″ ≡ ks′ → bs″ ≡ bs′ →
-    Partly n to c settled reached d k back m i (marked rs) (at ds) (at ks) (at bs) →
-    Partly n to c settled reached d k back m (i + 1) (marked rs″) (at ds″) (at ks″) (at bs″)
-step-lists n to c settled reached d k back m i rs ds ks bs rs′ ds′ ks′ bs′ rs″ ds″ ks″ bs″ x below arc fresh at-x each p q r s h =
-    let z = partly-step n to c settled reached d k back m i (marked rs) (at ds) (at ks) (at bs) (marked rs′) (at ds′) (at ks′) (at bs′) x below arc fresh at-x each h in
-    subst (λ (y : List ℕ). Partly n to c settled reached d k back m (i + 1) (marked y) (at ds″) (at ks″) (at bs″)) (sym p)
-    (subst (λ (y : List ℕ). Partly n to c settled reached d k back m (i + 1) (marked rs′) (at y) (at ks″) (at bs″)) (sym q)
-    (subst (λ (y : List ℕ). Partly n to c settled reached d k back m (i + 1) (marked rs′) (at ds′) (at y) (at bs″)) (sym r)
-    (subst (λ (y : List ℕ). Partly n to c settled reached d k back m (i + 1) (marked rs′) (at ds′) (at ks′) (at y)) (sym s) z)))
-
-pub skip-lists : (n : ℕ) (to : ℕ → ℕ → Bool) (c : ℕ → ℕ → ℕ) (settled reached : Set) (d k back : ℕ → ℕ) (m i : ℕ)
-    (rs ds ks bs rs″ ds″ ks″ bs″ : List ℕ) →
-    (to m i && not (settled i)) ≡ false → rs″ ≡ rs → ds″ ≡ ds → ks″ ≡ ks → bs″ ≡ bs →
-    Partly n to c settled reached d k back m i (marked rs) (at ds) (at ks) (at bs) →
-    Partly n to c settled reached d k back m (i + 1) (marked rs″) (at ds″) (at ks″) (at bs″)
-skip-lists n to c settled reached d k back m i rs ds ks bs rs″ ds″ ks″ bs″ off p q r s h =
-    let z = partly-skip n to c settled reached d k back m i (marked rs) (at ds) (at ks) (at bs) off h in
-    subst (λ (y : List ℕ). Partly n to c settled reached d k back m (i + 1) (marked y) (at ds″) (at ks″) (at bs″)) (sym p)
-    (subst (λ (y : List ℕ). Partly n to c settled reached d k back m (i + 1) (marked rs) (at y) (at ks″) (at bs″)) (sym q)
-    (subst (λ (y : List ℕ). Partly n to c settled reached d k back m (i + 1) (marked rs) (at ds) (at y) (at bs″)) (sym r)
-    (subst (λ (y : List ℕ). Partly n to c settled reached d k back m (i + 1) (marked rs) (at ds) (at ks) (at y)) (sym s) z)))
+-- heads that are passed over
+pub partly-jump : (n : ℕ) (to : ℕ → ℕ → Bool) (c : ℕ → ℕ → ℕ) (settled reached : Set) (d k back : ℕ → ℕ) (m i j : ℕ) (after : Set) (e l ahead : ℕ → ℕ) →
+    ((x : ℕ) → i ≤ x → x < j → outside (to m) settled x ≡ false) → i ≤ j →
+    Partly n to c settled reached d k back m i after e l ahead → Partly n to c settled reached d k back m j after e l ahead
+unfolding Partly
+partly-jump n to c settled reached d k back m i j after e l ahead off p h u q =
+    same-which _ _ _ _ _ _ _ _ _ _ _ _ _ u (passes (bettered to c settled reached d k m u) refl) (h u q)
+  where
+    passes : (b : Bool) → b ≡ bettered to c settled reached d k m u → (ltb u i && b) ≡ (ltb u j && b)
+    passes b e =
+        ⊎-elim
+        (λ (l : u < i). ap (λ (y : Bool). y && b) (lt-ltb u i l ∙ sym (lt-ltb u j (omega arith))))
+        (λ (l : i ≤ u).
+        ⊎-elim
+        (λ (r : u < j).
+        let z : bettered to c settled reached d k m u ≡ false = ap (λ (y : Bool). y && takes reached d k u (d m + c m u) (k m + 1)) (off u l r) in
+        ap (λ (y : Bool). y && b) (le-ltb u i l) ∙ sym (and-right (ltb u j) b (e ∙ z)))
+        (λ (r : j ≤ u). ap (λ (y : Bool). y && b) (le-ltb u i l ∙ sym (le-ltb u j r)))
+        (cases-lt u j))
+        (cases-lt u i)

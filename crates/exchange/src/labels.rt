@@ -10,7 +10,8 @@ ghost use lib.ListN.{length};
 ghost use mathlib.Core.Bool.{true, false, not, _&&_, _||_};
 ghost use mathlib.Core.Path.{_≡_};
 use crate::rows::holds;
-use crate::rows::joins;
+use crate::rows::next_head;
+use crate::rows::next_open;
 use crate::rows::put;
 
 // What a label at u costs by way of v, whose own label has cost `paid`.
@@ -75,11 +76,11 @@ fn relax(
     let inside = holds(set, v);
     let paid = costs[v];
     let step = steps[v] + 1;
-    for u in 0..n {
-        if joins(arcs, n, v, u) && !holds(settled, u) {
-            let cost = arrival(inside, paid, weights, potentials, v, u);
-            improve(reached, costs, steps, back, u, cost, step, v);
-        }
+    let mut u = next_head(arcs, v, settled, 0, n);
+    while u < n {
+        let cost = arrival(inside, paid, weights, potentials, v, u);
+        improve(reached, costs, steps, back, u, cost, step, v);
+        u = next_head(arcs, v, settled, u + 1, n);
     }
 }
 
@@ -90,6 +91,17 @@ pub fn sooner(d: u32, k: u32, e: u32, l: u32) -> bool
     d < e || (d == e && k < l)
 }
 
+// Is the label of v less than the least so far?
+fn nearer(n: usize, costs: &[u32], steps: &[u32], v: usize, least: Option<usize>) -> bool
+    requires { ⌜ n ≤ length (now costs) ⌝ ∗ ⌜ n ≤ length (now steps) ⌝ ∗ ⌜ v < n ⌝ ∗ ⌜ Cases least (0 ≤ n) (λ m. m < n) ⌝ }
+    ensures { λ r. ⌜ Cases least (r ≡ true) (λ m. r ≡ not (Before (at (now (costs .entry)) m) (at (now (steps .entry)) m) (at (now (costs .entry)) v) (at (now (steps .entry)) v))) ⌝ }
+{
+    match least {
+        Some(m) => sooner(costs[v], steps[v], costs[m], steps[m]),
+        None => true,
+    }
+}
+
 // The element with the least label of those that are reached and not settled.
 fn nearest(
     n: usize,
@@ -98,17 +110,16 @@ fn nearest(
     costs: &[u32],
     steps: &[u32],
 ) -> Option<usize>
-    requires { ⌜ row-words n ≤ length (now reached) ⌝ ∗ ⌜ row-words n ≤ length (now settled) ⌝ ∗ ⌜ n ≤ length (now costs) ⌝ ∗ ⌜ n ≤ length (now steps) ⌝ }
+    requires { ⌜ n ≤ 600 ⌝ ∗ ⌜ row-words n ≤ length (now reached) ⌝ ∗ ⌜ row-words n ≤ length (now settled) ⌝ ∗ ⌜ n ≤ length (now costs) ⌝ ∗ ⌜ n ≤ length (now steps) ⌝ }
     ensures { λ r. ⌜ Cases r ((v : ℕ) → v < n → outside (marked (now (reached .entry))) (marked (now (settled .entry))) v ≡ false) (λ m. Least n (outside (marked (now (reached .entry))) (marked (now (settled .entry)))) (at (now (costs .entry))) (at (now (steps .entry))) m) ⌝ }
 {
     let mut least = None;
-    for v in 0..n {
-        if holds(reached, v) && !holds(settled, v) {
-            least = match least {
-                Some(m) if !sooner(costs[v], steps[v], costs[m], steps[m]) => Some(m),
-                _ => Some(v),
-            };
+    let mut v = next_open(reached, settled, 0, n);
+    while v < n {
+        if nearer(n, costs, steps, v, least) {
+            least = Some(v);
         }
+        v = next_open(reached, settled, v + 1, n);
     }
     least
 }
