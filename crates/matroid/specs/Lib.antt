@@ -2,3 +2,4 @@ pub mod Examples
 pub mod Exchanges
 pub mod Gains
 pub mod Optimal
+pub mod Rules

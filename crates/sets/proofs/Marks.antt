@@ -12,7 +12,9 @@ use lib.ListN.{length, getD, set}
 use Rattle.std.proofs.shelf.Lists.{getD-set-same, getD-set-other}
 use Rattle.std.proofs.shelf.Bits.{pow-pos}
 use Rattle.std.proofs.shelf.Tests.{cases-eq, eq-eqb, ne-eqb, eqb-true}
+use native.Mathlib.Numerals.{add-one}
 use Rattle.sets.specs.Bits.{member, marked, xor, Same-but}
+use Rattle.sets.specs.Matroid.{Set, size, pick}
 use Rattle.sets.proofs.Masks.{bit, bit-or, bit-and, bit-xor, bit-one, bit-not}
 
 -- bit i of a list of numbers of w bits each
@@ -105,3 +107,14 @@ remove-at w xs i p q e f pos h j = let l : i / w < length xs = omega arith in rw
 pub set-same-but : (xs : List ℕ) (p v : ℕ) → Same-but p 1 xs (set xs p v)
 set-same-but xs p v k h =
     let ne : k ≡ p → ⊥ = λ e. ⊎-elim (λ (l : k < p). omega arith) (λ (l : p + 1 ≤ k). omega arith) h in getD-set-other xs p k v 0 ne
+
+-- the size below i + 1, from the size below i
+pub size-more : (s : Set) (i : ℕ) → size (i + 1) s ≡ pick (s i) 1 0 + size i s
+size-more s i = rw add-one
+
+-- a count steps over an element that is in the set, and over one that is not
+pub count-in : (s : Set) (i total new : ℕ) → (total ≡ size i s) × (total ≤ i) → s i ≡ true → new ≡ total + 1 → (new ≡ size (i + 1) s) × (new ≤ i + 1)
+count-in s i total new (e, l) h f = let m = size-more s i in let p = ap (λ (b : Bool). pick {A = ℕ} b 1 0) h in (omega arith, omega arith)
+
+pub count-out : (s : Set) (i total new : ℕ) → (total ≡ size i s) × (total ≤ i) → s i ≡ false → new ≡ total → (new ≡ size (i + 1) s) × (new ≤ i + 1)
+count-out s i total new (e, l) h f = let m = size-more s i in let p = ap (λ (b : Bool). pick {A = ℕ} b 1 0) h in (omega arith, omega arith)

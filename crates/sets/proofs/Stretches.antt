@@ -43,6 +43,11 @@ rewritten-more f at k xs ys v h e r =
       rest = λ p o. getD-set-other ys (at + k) p v 0 (apart at k p o) ∙ r .rest p (wider at k p o);
     }
 
+-- one more write inside the stretch
+pub same-but-more : (at m : ℕ) (xs ys : List ℕ) (p v : ℕ) → at ≤ p → p < at + m → Same-but at m xs ys → Same-but at m xs (set ys p v)
+same-but-more at m xs ys p v l h s q o =
+    getD-set-other ys p q v 0 (λ e. ⊎-elim (λ (k : q < at). omega arith) (λ (k : at + m ≤ q). omega arith) o) ∙ s q o
+
 -- the loop is at its end
 pub rewritten-all : (f : ℕ → ℕ) (at k m : ℕ) (xs ys : List ℕ) → k ≡ m → Rewritten f at k xs ys → Rewritten f at m xs ys
 rewritten-all f at k m xs ys e r = rw e at r

@@ -27,3 +27,33 @@ pub fn read_u64(bytes: &[u8], at: usize) -> u64
 {
     read_u32(bytes, at) as u64 + 4294967296 * read_u32(bytes, at + 4) as u64
 }
+
+// Writes the number into the two bytes from `at` on.
+pub fn write_u16(bytes: &mut [u8], at: usize, value: u16)
+    requires { ⌜ at + 2 ≤ length (now bytes) ⌝ }
+    ensures number { λ _. ⌜ le2 (now (bytes .exit)) at ≡ value ⌝ }
+    ensures rest { λ _. ⌜ Same-but at 2 (now (bytes .entry)) (now (bytes .exit)) ⌝ }
+{
+    bytes[at] = (value % 256) as u8;
+    bytes[at + 1] = (value / 256) as u8;
+}
+
+// Writes the number into the four bytes from `at` on.
+pub fn write_u32(bytes: &mut [u8], at: usize, value: u32)
+    requires { ⌜ at + 4 ≤ length (now bytes) ⌝ }
+    ensures number { λ _. ⌜ le4 (now (bytes .exit)) at ≡ value ⌝ }
+    ensures rest { λ _. ⌜ Same-but at 4 (now (bytes .entry)) (now (bytes .exit)) ⌝ }
+{
+    write_u16(bytes, at, (value % 65536) as u16);
+    write_u16(bytes, at + 2, (value / 65536) as u16);
+}
+
+// Writes the number into the eight bytes from `at` on.
+pub fn write_u64(bytes: &mut [u8], at: usize, value: u64)
+    requires { ⌜ at + 8 ≤ length (now bytes) ⌝ }
+    ensures number { λ _. ⌜ le8 (now (bytes .exit)) at ≡ value ⌝ }
+    ensures rest { λ _. ⌜ Same-but at 8 (now (bytes .entry)) (now (bytes .exit)) ⌝ }
+{
+    write_u32(bytes, at, (value % 4294967296) as u32);
+    write_u32(bytes, at + 4, (value / 4294967296) as u32);
+}

@@ -6,7 +6,8 @@ ghost use Prim.Native.Nat.{ℕ, _+_, _-_, _*_, _/_, _%_, _^_, _<_, _≤_};
 ghost use lib.Dec.{eqb, ltb};
 ghost use lib.ListN.{length, getD};
 ghost use Rattle.sets.specs.Bits.{marked, row, word-row, row-words, row-bytes, xor, Same-but};
-ghost use Rattle.sets.specs.Matroid.{size};
+ghost use Rattle.sets.specs.Matroid.{size, Within};
+ghost use Rattle.std.specs.Orderings.{Decides};
 
 // Is i in the row?
 pub fn contains(words: &[u32], at: usize, i: usize) -> bool
@@ -32,6 +33,46 @@ pub fn remove(words: &mut [u32], at: usize, i: usize)
     ensures rest { λ _. ⌜ Same-but (at + i / 32) 1 (now (words .entry)) (now (words .exit)) ⌝ }
 {
     words[at + i / 32] &= !(1 << (i % 32));
+}
+
+// How many of the first n elements are in the row.
+pub fn count(words: &[u32], at: usize, n: usize) -> usize
+    requires { ⌜ 32 * at + n ≤ 32 * length (now words) ⌝ }
+    ensures { λ r. ⌜ r ≡ size n (word-row (now (words .entry)) at) ⌝ }
+{
+    let mut total = 0;
+    for i in 0..n {
+        if contains(words, at, i) {
+            total += 1;
+        }
+    }
+    total
+}
+
+// Have row `at` of a and row `to` of b the same of the first n elements?
+pub fn equal(a: &[u32], at: usize, b: &[u32], to: usize, n: usize) -> bool
+    requires { ⌜ 32 * at + n ≤ 32 * length (now a) ⌝ ∗ ⌜ 32 * to + n ≤ 32 * length (now b) ⌝ }
+    ensures { λ r. ⌜ Decides r ((i : ℕ) → i < n → word-row (now (a .entry)) at i ≡ word-row (now (b .entry)) to i) ⌝ }
+{
+    for i in 0..n {
+        if contains(a, at, i) != contains(b, to, i) {
+            return false;
+        }
+    }
+    true
+}
+
+// Does row `at` of a lie in row `to` of b, as to the first n elements?
+pub fn lies_in(a: &[u32], at: usize, b: &[u32], to: usize, n: usize) -> bool
+    requires { ⌜ 32 * at + n ≤ 32 * length (now a) ⌝ ∗ ⌜ 32 * to + n ≤ 32 * length (now b) ⌝ }
+    ensures { λ r. ⌜ Decides r (Within n (word-row (now (a .entry)) at) (word-row (now (b .entry)) to)) ⌝ }
+{
+    for i in 0..n {
+        if contains(a, at, i) && !contains(b, to, i) {
+            return false;
+        }
+    }
+    true
 }
 
 // Makes the `len` words from `at` on 0: an empty row.
@@ -92,5 +133,37 @@ pub fn copy_row(from: &[u32], at: usize, words: &mut [u32], to: usize, len: usiz
 {
     for k in 0..len {
         words[to + k] = from[at + k];
+    }
+}
+
+// The low n bits of a byte: all of it from 8 on.
+fn low_bits(byte: u8, n: usize) -> u8
+    ensures { λ r. ⌜ r ≡ byte % 2 ^ n ⌝ }
+{
+    if n < 8 { byte % (1 << n) } else { byte }
+}
+
+// Row `to` of words becomes the row of n bits in the bytes from `at` on; what is left of its last word is 0.
+pub fn load_row(bytes: &[u8], at: usize, n: usize, words: &mut [u32], to: usize)
+    requires { ⌜ at + row-bytes n ≤ length (now bytes) ⌝ ∗ ⌜ to + row-words n ≤ length (now words) ⌝ ∗ ⌜ n < 2 ^ 32 ⌝ }
+    ensures marks { λ _. ⌜ ((j : ℕ) → j < 32 * row-words n → word-row (now (words .exit)) to j ≡ (ltb j n && row (now (bytes .entry)) at j)) ⌝ }
+    ensures rest { λ _. ⌜ Same-but to (row-words n) (now (words .entry)) (now (words .exit)) ⌝ }
+{
+    clear_row(words, to, (n + 31) / 32);
+    for k in 0..(n + 7) / 8 {
+        let byte = low_bits(bytes[at + k], n - 8 * k);
+        words[to + k / 4] |= (byte as u32) << (8 * (k % 4));
+    }
+}
+
+// The bytes from `to` on become row `from` of words, of n bits; what is left of the last byte is 0.
+pub fn store_row(words: &[u32], from: usize, n: usize, bytes: &mut [u8], to: usize)
+    requires { ⌜ from + row-words n ≤ length (now words) ⌝ ∗ ⌜ to + row-bytes n ≤ length (now bytes) ⌝ ∗ ⌜ n < 2 ^ 32 ⌝ }
+    ensures members { λ _. ⌜ ((j : ℕ) → j < 8 * row-bytes n → row (now (bytes .exit)) to j ≡ (ltb j n && word-row (now (words .entry)) from j)) ⌝ }
+    ensures rest { λ _. ⌜ Same-but to (row-bytes n) (now (bytes .entry)) (now (bytes .exit)) ⌝ }
+{
+    for k in 0..(n + 7) / 8 {
+        let byte = (words[from + k / 4] >> (8 * (k % 4))) % 256;
+        bytes[to + k] = low_bits(byte as u8, n - 8 * k);
     }
 }
