@@ -21,4 +21,5 @@ pub mod Shortcuts
 pub mod Shorten
 pub mod ShortestLabels
 pub mod SmallPaths
+pub mod Verdicts
 pub mod Walks

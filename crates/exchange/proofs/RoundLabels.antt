@@ -13,7 +13,7 @@ use Rattle.std.specs.declared.option.Option.the-variants.{Some, None}
 use Rattle.sets.specs.Bits.{marked}
 use Rattle.sets.specs.Matroid.{pick, Set, with, without, both}
 use Rattle.exchange.specs.Round.{top, State, Before, Labels, lost, End, behind, Closed}
-use Rattle.exchange.specs.Graph.{arc, addable, cost, table, Tables, Priced, Shortest, Least, Leading}
+use Rattle.exchange.specs.Graph.{arc, addable, cost, table, Tables, Priced, Shortest, Least, Reaching}
 use Rattle.exchange.proofs.Rounds.{addable-from, to-out, to-in, to-sides, from-out, from-in, source-parts, is-end, unreached}
 
 -- a cost that is a difference, put on both sides
@@ -86,7 +86,7 @@ module _ (n : ℕ) (f g : Set → Bool) (s : Set) (arcs sources sinks : List ℕ
       (z .0, z .1, omega arith)
 
   -- where no sink is reached, the set from which the sinks are reached is closed and has no source
-  pub is-closed : (u : Set) → ((x : ℕ) → x < n → both (marked sinks) reached x ≡ false) → Leading n (table n arcs) (marked sinks) u → Closed n f g s u
+  pub is-closed : (u : Set) → ((x : ℕ) → x < n → both (marked sinks) reached x ≡ false) → Reaching n (table n arcs) (marked sinks) u → Closed n f g s u
   is-closed u none lead = record {
     sinks = λ x p o h. lead .sinks x p (holds .each-sink x p ∙ addable-from g s x o h);
     by-first = λ y x p q i o b h. lead .backwards y x p q (from-out n f g s arcs sources sinks holds y x p q i o h) b;
@@ -121,7 +121,7 @@ module _ (n : ℕ) (f g : Set → Bool) (s : Set) (arcs sources sinks : List ℕ
   Ended o = Cases o ((x : ℕ) → x < n → both (marked sinks) reached x ≡ false) (λ t. Least n (both (marked sinks) reached) (lost w a d) k t)
 
   -- the closed set where there is none, and the end where there is one
-  pub none-ends : (u : Set) (o : Option ℕ) → isSome o ≡ false → Ended o → Leading n (table n arcs) (marked sinks) u →
+  pub none-ends : (u : Set) (o : Option ℕ) → isSome o ≡ false → Ended o → Reaching n (table n arcs) (marked sinks) u →
       Cases o (Closed n f g s u) (λ t. End n g w a s reached d k t)
   none-ends u None e h lead = is-closed u h lead
   none-ends u (Some t) e h lead = absurd (both-ways true e refl)

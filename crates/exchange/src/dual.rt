@@ -1,6 +1,6 @@
 // The dual set: the elements from which a sink can be reached.
 ghost use Prim.Native.Nat.{ℕ, _+_, _*_, _<_, _≤_};
-ghost use Rattle.exchange.specs.Graph.{table, Leading};
+ghost use Rattle.exchange.specs.Graph.{table, Reaching};
 ghost use Rattle.sets.specs.Bits.{marked, row-words};
 ghost use Rattle.sets.specs.Matroid.{Set, size, Within};
 ghost use lib.ListN.{length};
@@ -38,7 +38,7 @@ fn grow(n: usize, arcs: &[u32], dual: &mut [u32]) -> bool
 // The dual set: all elements from which a sink can be reached along arcs.
 pub fn dual_set(n: usize, arcs: &[u32], sinks: &[u32], dual: &mut [u32])
     requires { ⌜ n ≤ 600 ⌝ ∗ ⌜ row-words n * n ≤ length (now arcs) ⌝ ∗ ⌜ row-words n ≤ length (now sinks) ⌝ ∗ ⌜ row-words n ≤ length (now dual) ⌝ }
-    ensures { λ _. ⌜ Leading n (table n (now (arcs .entry))) (marked (now (sinks .entry))) (marked (now (dual .exit))) ⌝ }
+    ensures { λ _. ⌜ Reaching n (table n (now (arcs .entry))) (marked (now (sinks .entry))) (marked (now (dual .exit))) ⌝ }
 {
     copy_row(sinks, 0, dual, 0, (n + 31) / 32);
     while grow(n, arcs, dual) {}

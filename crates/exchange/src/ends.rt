@@ -16,7 +16,7 @@ use crate::rows::put;
 const TOP: u32 = 1_000_000;
 
 // What the path that ends in x loses.
-fn loss(weights: &[u32], potentials: &[u32], costs: &[u32], x: usize) -> u32
+pub fn loss(weights: &[u32], potentials: &[u32], costs: &[u32], x: usize) -> u32
     requires within { ⌜ x < length (now weights) ⌝ ∗ ⌜ x < length (now potentials) ⌝ ∗ ⌜ x < length (now costs) ⌝ }
     requires small { ⌜ at (now weights) x ≤ top ⌝ ∗ ⌜ at (now costs) x + at (now potentials) x ≤ 602 * top ⌝ }
     ensures { λ r. ⌜ r ≡ lost (at (now (weights .entry))) (at (now (potentials .entry))) (at (now (costs .entry))) x ⌝ }

@@ -1,7 +1,9 @@
 // The work of one round: a best augmenting path, or the dual set where there is none.
 ghost use Prim.Native.Nat.{ℕ, _+_, _-_, _*_, _<_, _≤_};
 ghost use Rattle.exchange.specs.Graph.{at, table, Tables, Small-labels};
+ghost use Rattle.exchange.specs.Predecessors.{Predecessors};
 ghost use Rattle.exchange.specs.Round.{top, State, Labels, End, Closed, behind};
+ghost use Rattle.matroid.specs.Optimal.{Dual};
 ghost use Rattle.matroid.specs.Rules.{allows, Well, Ready, kept-length};
 ghost use Rattle.sets.specs.Bits.{marked, row-words};
 ghost use Rattle.sets.specs.Matroid.{size, with};
@@ -22,7 +24,8 @@ pub struct Outcome {
     pub end: Option<usize>,
 }
 
-// Finds the end of a best augmenting path with the labels that lead back from it, or, where no sink is reached, the dual set.
+// Finds the end of a best augmenting path with the labels that lead back from it, or, where no sink is reached, the dual set,
+// which shows that the set is a largest one.
 // The tables are those of the set after. What `settled` holds after is free, and so is `dual` where there is a path.
 pub fn find_path(
     file: &[u8],
@@ -57,6 +60,7 @@ pub fn find_path(
     ensures small { λ _. ⌜ Small-labels n (at (now (weights .entry))) (at (now (potentials .entry))) (marked (now (reached .exit))) (at (now (costs .exit))) (at (now (steps .exit))) n ⌝ }
     ensures ends { λ r. ⌜ Cases (r .end) (Closed n (allows (now (file .entry)) n first) (allows (now (file .entry)) n second) (marked (now (set .entry))) (marked (now (dual .exit)))) (λ t. End n (allows (now (file .entry)) n second) (at (now (weights .entry))) (at (now (potentials .entry))) (marked (now (set .entry))) (marked (now (reached .exit))) (at (now (costs .exit))) (at (now (steps .exit))) t) ⌝ }
     ensures within { λ r. ⌜ Cases (r .end) ((x : ℕ) → x < n → marked (now (set .entry)) x ≡ false → allows (now (file .entry)) n second (with (marked (now (set .entry))) x) ≡ true → marked (now (reached .exit)) x ≡ false) (λ t. (j : ℕ) → j < at (now (steps .exit)) t → behind (at (now (back .exit))) t j < n) ⌝ }
+    ensures best { λ r. ⌜ Cases (r .end) (Dual n (allows (now (file .entry)) n first) (allows (now (file .entry)) n second) (marked (now (set .entry))) (marked (now (dual .exit)))) (λ t. (m : ℕ) × Predecessors n (allows (now (file .entry)) n first) (allows (now (file .entry)) n second) (at (now (weights .entry))) (at (now (potentials .entry))) (marked (now (set .entry))) (at (now (costs .exit))) (at (now (steps .exit))) (at (now (back .exit))) t m) ⌝ }
     ensures kept { λ _. ⌜ Ready (now (file .entry)) n first (marked (now (set .entry))) (now («first_state» .exit)) ⌝ ∗ ⌜ Ready (now (file .entry)) n second (marked (now (set .entry))) (now («second_state» .exit)) ⌝ }
 {
     let asked = tables(
