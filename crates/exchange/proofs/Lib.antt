@@ -8,6 +8,7 @@ pub mod Counting
 pub mod Cuts
 pub mod Cycles
 pub mod DualSets
+pub mod Growing
 pub mod LabelPaths
 pub mod LeadingExists
 pub mod Leasts
