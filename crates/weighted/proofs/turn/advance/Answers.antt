@@ -3,7 +3,7 @@ use native.Mathlib.Omega.{arith}
 use Rattle.sets.specs.Bits.{marked}
 use Rattle.exchange.specs.Graph.{at}
 use Rattle.matroid.specs.Rules.{allows}
-use Rattle.matroid.proofs.RuleLaws.{rule-matroid}
+use Rattle.matroid.proofs.RuleLaws.{rules-matroid}
 use Rattle.weighted.proofs.Turning.{loss-fits, added-by, some-end}
 use Rattle.weighted.proofs.turn.advance.Needs as need
 
@@ -34,7 +34,7 @@ returns-in-Some c =
           added-by n (allows file n (c .args .first)) (allows file n (c .args .second)) w a (at (c .raise .last .potentials)) (c .args .loss)
           (c .loss-risen .result) s (marked (c .toggle-path .last .set)) (marked (c .find-path-outcome .last .reached))
           (at (c .find-path-outcome .last .costs)) (at (c .find-path-outcome .last .steps)) (at (c .find-path-outcome .last .back))
-          (c .in-Some .t) (rule-matroid file n (c .args .first) (c .pre .well .0)) (rule-matroid file n (c .args .second) (c .pre .well .1))
+          (c .in-Some .t) (rules-matroid file n (c .args .first) (c .pre .well .0)) (rules-matroid file n (c .args .second) (c .pre .well .1))
           (c .pre .light) (c .pre .state) (c .find-path-outcome .ensures .labels) end (c .loss-risen .ensures) (c .toggle-path .ensures)
           (c .raise .ensures);
     }
