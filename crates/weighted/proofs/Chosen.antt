@@ -1,19 +1,21 @@
 -- What the last round leaves: a largest set with its dual set, and a heaviest set for every size.
-use mathlib.Core.Path.{_≡_, refl, sym, ap, _∙_}
+use mathlib.Core.Path.{_≡_, refl, sym, ap, subst, _∙_}
 use mathlib.Core.Bool.{Bool, true, false, _&&_, _||_, not}
 use mathlib.Core.List.{List}
 use Prim.Native.Nat.{ℕ, zero, suc, _+_, _-_, _*_, _≤_, _<_}
+use native.Mathlib.Nat.{add-mul, mul-add, mul-comm, mul-assoc}
 use native.Mathlib.Omega.{arith}
+use lib.IntN.{pos}
 use borrow.Author.Differences.{up, down}
 use Rattle.sets.specs.Bits.{row, row-bytes}
 use Rattle.sets.specs.Matroid.{Set, size, weight, both, outside, none, with, Matroid}
 use Rattle.sets.proofs.FiniteSets.{size-same, size-none}
 use Rattle.sets.proofs.MatroidLaws.{allowed-same}
-use Rattle.sets.proofs.Weights.{weight-none}
+use Rattle.sets.proofs.Weights.{weight-none, weight-same}
 use Rattle.matroid.specs.Optimal.{Dual, Signed-split}
 use Rattle.matroid.proofs.Gains.{gains-never-rise}
 use Rattle.matroid.proofs.Optimality.{largest, heaviest-signed, signed-is-split}
-use Rattle.weighted.specs.Choice.{largest-set, dual-set, sized-set, first-part, second-part, weight-of-size, Sized, Chosen}
+use Rattle.weighted.specs.Choice.{largest-set, dual-set, sized-set, first-part, second-part, weight-of-size, round-calls, Sized, Chosen}
 use Rattle.weighted.proofs.Progress.{Kept}
 
 -- a set with a splitting is a heaviest one of its size
@@ -86,3 +88,55 @@ chosen {n} {f} {g} mf mg w s u sets numbers k c d es eu each =
       each = λ j l. sized-kept mf mg w sets numbers j (each j l);
       gains = λ j l. gains mf mg w sets numbers j (λ i b. each i (omega arith));
     }
+
+-- what the sets of each size weigh, by weights that agree below n
+weights-alike : (n : ℕ) (w w′ : ℕ → ℕ) (sets : List ℕ) (j : ℕ) → ((x : ℕ) → x < n → w′ x ≡ w x) →
+    weight-of-size n w′ sets j ≡ weight-of-size n w sets j
+weights-alike n w w′ sets zero e = refl
+weights-alike n w w′ sets (suc j) e = weight-same n w′ w (sized-set n sets j) (sized-set n sets j) e (λ x l. refl)
+
+-- a choice for weights that agree below n
+pub chosen-alike : (n : ℕ) (f g : Set → Bool) (w w′ : ℕ → ℕ) (sets numbers : List ℕ) (k : ℕ) → ((x : ℕ) → x < n → w′ x ≡ w x) →
+    Chosen n f g w sets numbers k → Chosen n f g w′ sets numbers k
+chosen-alike n f g w w′ sets numbers k e h =
+    record {
+      counted = h .counted;
+      dual = h .dual;
+      largest = h .largest;
+      each = λ j l.
+          let s = h .each j l in
+          record {
+            sized = s .sized;
+            split =
+                record {
+                  first = s .split .first;
+                  second = s .split .second;
+                  parts = λ x b. s .split .parts x b ∙ ap pos (sym (e x b));
+                  add-first = s .split .add-first;
+                  exchange-first = s .split .exchange-first;
+                  add-second = s .split .add-second;
+                  exchange-second = s .split .exchange-second;
+                };
+            heaviest = λ t ft gt c.
+                rw (weight-same n w′ w t t e (λ x b. refl), weight-same n w′ w (sized-set n sets j) (sized-set n sets j) e (λ x b. refl))
+                (s .heaviest t ft gt c);
+          };
+      gains = λ j l.
+          rw (weights-alike n w w′ sets (suc (suc j)) e, weights-alike n w w′ sets j e, weights-alike n w w′ sets (suc j) e) (h .gains j l);
+    }
+
+-- twice a part of n times the rest is at most n times n
+twice : (k m : ℕ) → 2 * k * m ≤ (k + m) * (k + m)
+twice k m =
+    let e : (k + m) * (k + m) ≡ k * (k + m) + m * (k + m) = add-mul k m (k + m) in
+    let f : k * (k + m) ≡ k * k + k * m = mul-add k k m in
+    let g : m * (k + m) ≡ m * k + m * m = mul-add m k m in
+    let h : m * k ≡ k * m = mul-comm m k in
+    let i : 2 * k * m ≡ 2 * (k * m) = mul-assoc 2 k m in
+    omega arith
+
+-- a round of a set of k offers asks no more than n times n
+pub few-calls : (n k : ℕ) → k ≤ n → round-calls n k ≤ n * n
+few-calls n k l =
+    let e : k + (n - k) ≡ n = omega arith in
+    subst (λ (z : ℕ). round-calls n k ≤ z * z) e (twice k (n - k))

@@ -2,6 +2,7 @@ pub mod Chosen
 pub mod Converses
 pub mod Existence
 pub mod LabelsExist
+pub mod Lengths
 pub mod Moving
 pub mod Progress
 pub mod Raised

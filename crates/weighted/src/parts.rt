@@ -74,16 +74,22 @@ pub fn write_parts(n: usize, weights: &[u32], potentials: &[u32], j: usize, numb
 }
 
 // Writes what the round left for the size j + 1: its set, and the two parts of each weight.
-pub fn write_size(n: usize, weights: &[u32], potentials: &[u32], set: &[u32], j: usize, sets: &mut [u8], numbers: &mut [u64])
+pub fn write_size(
+    n: usize,
+    weights: &[u32],
+    potentials: &[u32],
+    set: &[u32],
+    j: usize,
+    sets: &mut [u8],
+    numbers: &mut [u64],
+)
     requires small { ⌜ n ≤ 600 ⌝ ∗ ⌜ j < n ⌝ }
     requires lengths { ⌜ n ≤ length (now weights) ⌝ ∗ ⌜ n ≤ length (now potentials) ⌝ ∗ ⌜ row-words n ≤ length (now set) ⌝ }
     requires room { ⌜ (j + 2) * row-bytes n + row-bytes n ≤ length (now sets) ⌝ ∗ ⌜ 2 * ((j + 1) * n) ≤ length (now numbers) ⌝ }
     ensures members { λ _. ⌜ ((x : ℕ) → x < n → sized-set n (now (sets .exit)) j x ≡ marked (now (set .entry)) x) ⌝ }
     ensures others { λ _. ⌜ Same-but ((j + 2) * row-bytes n) (row-bytes n) (now (sets .entry)) (now (sets .exit)) ⌝ }
     ensures first { λ _. ⌜ ((x : ℕ) → x < n → first-part n (now (numbers .exit)) j x ≡ pos (at (now (potentials .entry)) x)) ⌝ }
-    ensures second {
-        λ _. ⌜ ((x : ℕ) → x < n → second-part n (now (numbers .exit)) j x ≡ pos (at (now (weights .entry)) x) -ℤ pos (at (now (potentials .entry)) x)) ⌝
-    }
+    ensures second { λ _. ⌜ ((x : ℕ) → x < n → second-part n (now (numbers .exit)) j x ≡ pos (at (now (weights .entry)) x) -ℤ pos (at (now (potentials .entry)) x)) ⌝ }
     ensures rest { λ _. ⌜ Same-but (2 * (j * n)) (2 * n) (now (numbers .entry)) (now (numbers .exit)) ⌝ }
 {
     store_row(set, 0, n, sets, (j + 2) * ((n + 7) / 8));

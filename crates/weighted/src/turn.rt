@@ -87,7 +87,10 @@ pub fn advance(
             let risen = loss_at(weights, potentials, costs, t);
             raise(n, reached, costs, risen - loss, potentials);
             toggle_path(set, back, t, steps[t]);
-            Step { asked, loss: Some(risen) }
+            Step {
+                asked,
+                loss: Some(risen),
+            }
         }
     }
 }
@@ -166,7 +169,11 @@ pub fn all_rounds(
         match step.loss {
             None => {
                 write_largest(n, set, dual, sets);
-                return Answer { size, rounds: size, calls };
+                return Answer {
+                    size,
+                    rounds: size,
+                    calls,
+                };
             }
             Some(risen) => {
                 write_size(n, weights, potentials, set, size, sets, numbers);

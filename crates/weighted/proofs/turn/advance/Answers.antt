@@ -27,7 +27,7 @@ returns-in-Some c =
     let a = at (c .args .potentials .now) in
     let s = marked (c .args .set .now) in
     let end =
-        some-end (c .find-path-outcome .result .end) (c .in-Some .t) _ _ (c .in-Some .is) (c .find-path-outcome .ensures .ends) in
+    some-end (c .find-path-outcome .result .end) (c .in-Some .t) _ _ (c .in-Some .is) (c .find-path-outcome .ensures .ends) in
     record {
       asked = c .find-path-outcome .ensures .asked;
       ends =

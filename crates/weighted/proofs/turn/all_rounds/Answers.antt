@@ -26,11 +26,10 @@ held n k s e = let b : size n s ≤ n = size-bound n s in omega arith
 pub loop-set-holds : need.loop-set-holds
 loop-set-holds c =
     let n = c .args .n in
-    let file = c .args .file .now in
-    (
+    let file = c .args .file .now in (
       progress-none (rules-matroid file n (c .args .first) (c .pre .well .0)) (rules-matroid file n (c .args .second) (c .pre .well .1))
-      (at (c .args .weights .now)) (at (c .args .potentials .now)) (marked (c .args .set .now)) (c .args .sets .now) (c .args .numbers .now)
-      (c .pre .none .0) (c .pre .none .1) (c .pre .light),
+          (at (c .args .weights .now)) (at (c .args .potentials .now)) (marked (c .args .set .now)) (c .args .sets .now) (c .args .numbers .now)
+          (c .pre .none .0) (c .pre .none .1) (c .pre .light),
       zero-add (round-calls n 0),
       omega arith,
       (λ p l. refl),
@@ -44,7 +43,7 @@ add-calls c =
     let k = c .loop-set .size in
     let e = c .loop-set .inv .0 .counted in
     let h = calls-fit n k (c .loop-set .calls) (c .advance-step .result .asked) (c .pre .sizes .0) (held n k s e) (c .loop-set .inv .2)
-        (asked-is n k (c .advance-step .result .asked) s e (c .advance-step .ensures .asked)) in
+    (asked-is n k (c .advance-step .result .asked) s e (c .advance-step .ensures .asked)) in
     omega (arith, h)
 
 pub returns-in-None : need.returns-in-None
@@ -62,10 +61,11 @@ returns-in-None c =
           (c .loop-set .sets) (c .write-largest .last .sets) (c .loop-set .numbers) k p (end .1)
           (λ x l. c .write-largest .ensures .largest x l ∙ ap (λ (v : List ℕ). marked v x) (end .0)) (c .write-largest .ensures .duals)
           (c .write-largest .ensures .others);
-      counts =
-          (refl,
-           ap (λ (z : ℕ). c .loop-set .calls + z) (asked-is n k (c .advance-step .result .asked) s (p .counted) (c .advance-step .ensures .asked))
-           ∙ c .loop-set .inv .1);
+      counts = (
+        refl,
+        ap (λ (z : ℕ). c .loop-set .calls + z) (asked-is n k (c .advance-step .result .asked) s (p .counted) (c .advance-step .ensures .asked))
+            ∙ c .loop-set .inv .1,
+      );
       rest = c .loop-set .inv .3;
       others =
           all-rest (row-bytes n) k (c .args .sets .now) (c .loop-set .sets) (c .write-largest .last .sets) (c .loop-set .inv .4)
@@ -81,9 +81,10 @@ write-size-requires c κs =
     record {
       small = (c .pre .sizes .0, b);
       lengths = search needs;
-      room =
-          (set-room n k (row-bytes n) (length (c .loop-set .sets)) b (search needs),
-           number-room n k (length (c .loop-set .numbers)) b (search needs));
+      room = (
+        set-room n k (row-bytes n) (length (c .loop-set .sets)) b (search needs),
+        number-room n k (length (c .loop-set .numbers)) b (search needs),
+      );
     }
 
 pub add-size : need.add-size
@@ -115,14 +116,13 @@ loop-set-again c =
     let t = marked (c .advance-step .last .set) in
     let risen = c .in-Some .risen in
     let e = asked-is n k (c .advance-step .result .asked) s (p .counted) (c .advance-step .ensures .asked) in
-    let more = some-end (c .advance-step .result .loss) risen _ _ (c .in-Some .is) (c .advance-step .ensures .ends) in
-    (
+    let more = some-end (c .advance-step .result .loss) risen _ _ (c .in-Some .is) (c .advance-step .ensures .ends) in (
       step-up (λ (z : ℕ). Progress n f g w a risen t (c .write-size .last .sets) (c .write-size .last .numbers) z) k
-      (progress-more (rules-matroid file n (c .args .first) (c .pre .well .0)) (rules-matroid file n (c .args .second) (c .pre .well .1)) w
-      (at (c .loop-set .potentials)) a (c .loop-set .loss) risen s t (c .loop-set .sets) (c .write-size .last .sets) (c .loop-set .numbers)
-      (c .write-size .last .numbers) k p (more .state) (more .sized ∙ ap suc (p .counted))
-      (subst (λ (z : ℕ). risen ≤ suc z * top) (p .counted) (more .low)) (c .write-size .ensures .others) (c .write-size .ensures .members)
-      (c .write-size .ensures .rest) (c .write-size .ensures .first) (c .write-size .ensures .second)),
+          (progress-more (rules-matroid file n (c .args .first) (c .pre .well .0)) (rules-matroid file n (c .args .second) (c .pre .well .1)) w
+          (at (c .loop-set .potentials)) a (c .loop-set .loss) risen s t (c .loop-set .sets) (c .write-size .last .sets) (c .loop-set .numbers)
+          (c .write-size .last .numbers) k p (more .state) (more .sized ∙ ap suc (p .counted))
+          (subst (λ (z : ℕ). risen ≤ suc z * top) (p .counted) (more .low)) (c .write-size .ensures .others) (c .write-size .ensures .members)
+          (c .write-size .ensures .rest) (c .write-size .ensures .first) (c .write-size .ensures .second)),
       calls-next n k (c .loop-set .calls) (c .advance-step .result .asked) e (c .loop-set .inv .1),
       calls-few n k (c .loop-set .calls) (c .advance-step .result .asked) (c .pre .sizes .0) (held n k s (p .counted)) (c .loop-set .inv .2) e,
       numbers-rest n k (c .args .numbers .now) (c .loop-set .numbers) (c .write-size .last .numbers) (c .loop-set .inv .3) (c .write-size .ensures .rest),
