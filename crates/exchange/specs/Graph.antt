@@ -77,7 +77,7 @@ Small-labels n w a reached d k m =
     (v : ℕ) → v < n → reached v ≡ true → (d v + a v ≤ w v + k v * top) × (k v ≤ m + 1)
 
 -- the elements from which a sink can be reached: the least set that has the sinks and, with the head of an arc, its tail
-pub record Leading (n : ℕ) (to : ℕ → ℕ → Bool) (sink u : Set) : Type 0 where
+pub record Reaching (n : ℕ) (to : ℕ → ℕ → Bool) (sink u : Set) : Type 0 where
   pub sinks : (x : ℕ) → x < n → sink x ≡ true → u x ≡ true
   pub backwards : (v x : ℕ) → v < n → x < n → to v x ≡ true → u x ≡ true → u v ≡ true
   pub least : (t : Set) → ((x : ℕ) → x < n → sink x ≡ true → t x ≡ true) →

@@ -17,11 +17,13 @@ use Rattle.sets.specs.declared.refusal.Refusal.{Refusal}
 use Rattle.sets.specs.declared.refusal.Refusal.the-variants.{Length, Weight}
 use Rattle.sets.specs.declared.refusal.Refusal.the-variants as refused
 use Rattle.sets.specs.declared.refusal.Source.the-variants.{Offers}
-use Rattle.matroid.specs.declared.Rule.{Rule}
+use Rattle.matroid.specs.declared.rule.Rule.{Rule}
+use Rattle.matroid.specs.declared.rule.Rule.the-variants.{Limits, Volunteers, Links, Rows}
 use Rattle.matroid.specs.declared.problem.Problem.{Problem}
 use Rattle.matroid.specs.Problem.{offers, weight-of, rules-at, rule-end, Stands, Means}
-use Rattle.matroid.specs.Reading.{and-then, read-weights, read-rule, read-end, read, end-at, Known, Rule-fault, second-at, end-of, Fault, Reads-meaning, Refuses-first, Faultless}
+use Rattle.matroid.specs.Reading.{and-then, read-weights, read-rule, read-end, read, end-at, Known, Rule-fault, second-at, end-of, Fault, Reads-meaning, Refuses-first, Faultless, Means-well}
 use Rattle.matroid.specs.Reading.Fault.{no-number, wrong-number, cut, heavy, first, second, too-long}
+use Rattle.matroid.specs.Rules.{Well}
 use Rattle.matroid.proofs.Stages.{Sound, Located, reworded, tested, in-turn}
 use Rattle.matroid.proofs.WeightReading.{Weights-fault, Weights-good, weights-sound, weights-located}
 use Rattle.matroid.proofs.RuleReading.{rule-sound}
@@ -268,3 +270,13 @@ faultless file problem e m k = read-sound file .faultless problem m e k
 pub read-cases : (file : List ℕ) (r : Result Problem Refusal) → r ≡ read file → Cases r (λ problem. Means file problem) (λ e. First (Fault file) e)
 read-cases file (Ok problem) h = read-sound file .ok-good problem (sym h)
 read-cases file (Err e) h = read-sound file .err-first e (sym h)
+
+-- a rule that stands in a file is well formed, so both rules of a problem are
+stands-well : (file : List ℕ) (n p : ℕ) (rule : Rule) → Stands file n p rule → Well file n rule
+stands-well file n p (Limits groups at) g = g .4
+stands-well file n p (Volunteers volunteers at) g = g .4
+stands-well file n p (Links towns at) g = g .4
+stands-well file n p (Rows prime long at) g = g .4
+
+pub means-well : Means-well
+means-well file problem m = (stands-well file _ _ _ (m .first), stands-well file _ _ _ (m .second))

@@ -2,6 +2,7 @@ pub mod Gains
 pub mod ManyExchanges
 pub mod OneMatroid
 pub mod Optimality
+pub mod RuleLaws
 pub mod SmallExchanges
 pub mod SmallMatroids
 pub mod TightExchanges
@@ -11,4 +12,3 @@ pub mod RuleReading
 pub mod KindLaws
 pub mod RulePlaces
 pub mod FileReading
-pub mod RuleLaws

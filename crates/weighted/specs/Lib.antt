@@ -1,3 +1,4 @@
+pub mod Choice
 pub mod Converses
 pub mod Examples
 pub mod Next

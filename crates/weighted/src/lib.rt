@@ -1,3 +1,4 @@
-// Heaviest sets of every size for two matroids.
+// A heaviest choice for every size, and theorems on the rounds that find it.
 pub mod examples;
+mod parts;
 pub mod theory;
