@@ -17,11 +17,13 @@ use Rattle.sets.specs.declared.refusal.Refusal.{Refusal}
 use Rattle.sets.specs.declared.refusal.Refusal.the-variants.{Length, Weight}
 use Rattle.sets.specs.declared.refusal.Refusal.the-variants as refused
 use Rattle.sets.specs.declared.refusal.Source.the-variants.{Offers}
-use Rattle.matroid.specs.declared.Rule.{Rule}
+use Rattle.matroid.specs.declared.rule.Rule.{Rule}
+use Rattle.matroid.specs.declared.rule.Rule.the-variants.{Limits, Volunteers, Links, Rows}
 use Rattle.matroid.specs.declared.problem.Problem.{Problem}
 use Rattle.matroid.specs.Problem.{offers, weight-of, rules-at, rule-end, Stands, Means}
-use Rattle.matroid.specs.Reading.{and-then, read-weights, read-rule, read-end, read, end-at, Known, Rule-fault, second-at, end-of, Fault, Reads-meaning, Refuses-first, Faultless}
+use Rattle.matroid.specs.Reading.{and-then, read-weights, read-rule, read-end, read, end-at, Known, Rule-fault, second-at, end-of, Fault, Reads-meaning, Refuses-first, Faultless, Means-well}
 use Rattle.matroid.specs.Reading.Fault.{no-number, wrong-number, cut, heavy, first, second, too-long}
+use Rattle.matroid.specs.Rules.{Well}
 use Rattle.matroid.proofs.Stages.{Sound, Located, reworded, tested, in-turn}
 use Rattle.matroid.proofs.WeightReading.{Weights-fault, Weights-good, weights-sound, weights-located}
 use Rattle.matroid.proofs.RuleReading.{rule-sound}
@@ -33,30 +35,35 @@ longer file a a' b b' f l m w =
     ⊎-elim (λ (x : (f ≡ Length Offers (length file)) × (length file < b)). inl (x .0, omega (arith, x .1)))
     (λ (x : (a ≤ place f) × (place f < b) × (place f < length file)). inr (omega (arith, x .0), omega (arith, x .1), x .2)) w
 
+-- a number in range is not out of it
 no-range : (k : ℕ) → 1 ≤ k → k ≤ 600 → (k ≡ 0) ⊎ (600 < k) → ⊥
 no-range k a b (inl w) = omega arith
 no-range k a b (inr w) = omega arith
 
+-- a number that is not 0 is 1 at least
 above-none : (k : ℕ) → (k ≡ 0 → ⊥) → 1 ≤ k
 above-none zero h = absurd (h refl)
 above-none (suc k) h = omega arith
 
 -- a file whose number of offers is right
 module _ (file : List ℕ) (long : 2 ≤ length file) (some : 1 ≤ offers file) (few : offers file ≤ 600) where
-  -- where the first rule begins, and a place behind all
+  -- how many offers there are
   abbrev n : ℕ
   n = offers file
 
+  -- the place of the first rule
   abbrev p : ℕ
   p = rules-at (offers file)
 
+  -- a place behind all
   abbrev far : ℕ
   far = length file + end-of file + 1
 
-  -- what is wrong with the second rule, and with what stands behind it
+  -- what is wrong with the second rule
   abbrev Second-fault : Refusal → Type 0
   Second-fault f = Known file p × Rule-fault file n (second-at file) f
 
+  -- bytes are left over
   abbrev End-fault : Refusal → Type 0
   End-fault f = Known file p × Known file (second-at file) × (end-of file < length file) × (f ≡ Length Offers (end-of file))
 
@@ -64,18 +71,22 @@ module _ (file : List ℕ) (long : 2 ≤ length file) (some : 1 ≤ offers file)
   abbrev End-good : Rule → Rule → Problem → Type 0
   End-good x y problem = (problem ≡ record { n = n; first = x; second = y }) × (rule-end n y ≡ length file)
 
+  -- where bytes left over are
   end-located : (f : Refusal) → End-fault f → Located file (end-of file) far f
   end-located f k = let q : place f ≡ end-of file = ap place (k .3) in inr (omega arith, omega (arith, k .2), omega (arith, k .2))
 
+  -- where the faults of the second rule are
   second-located : (f : Refusal) → Second-fault f → Located file (second-at file) (end-of file) f
   second-located f k = rule-located file n (second-at file) f (k .1)
 
+  -- where the faults behind the first rule are
   later-located : (f : Refusal) → Second-fault f ⊎ End-fault f → Located file (second-at file) far f
   later-located f k =
       let e = end-past file n (second-at file) in
       ⊎-elim (λ (x : Second-fault f). longer file _ _ _ _ f (omega arith) (omega arith) (second-located f x))
       (λ (x : End-fault f). longer file _ _ _ _ f (omega arith) (omega arith) (end-located f x)) k
 
+  -- where the faults behind the weights are
   rules-located : (f : Refusal) → Rule-fault file n p f ⊎ (Second-fault f ⊎ End-fault f) → Located file p far f
   rules-located f k =
       let d = end-past file n p in
@@ -123,6 +134,7 @@ module _ (file : List ℕ) (long : 2 ≤ length file) (some : 1 ≤ offers file)
       in-turn file (second-at file) (end-of file) far Second-fault End-fault (Stands file n (rule-end n x)) (End-good x) second-located end-located
       (λ y. read-end file n x y) (λ y h. end-sound x y g h) (read-rule file n (rule-end n x)) (second-sound x g)
 
+  -- reading both rules
   rules-sound :
       Sound Problem (and-then (read-rule file n p) (λ x. and-then (read-rule file n (rule-end n x)) (λ y. read-end file n x y)))
       (λ f. Rule-fault file n p f ⊎ (Second-fault f ⊎ End-fault f))
@@ -132,12 +144,15 @@ module _ (file : List ℕ) (long : 2 ≤ length file) (some : 1 ≤ offers file)
       (λ x z. (y : Rule) × Stands file n (rule-end n x) y × End-good x y z) (rule-located file n p) later-located
       (λ x. and-then (read-rule file n (rule-end n x)) (λ y. read-end file n x y)) later-sound (read-rule file n p) (rule-sound file n p)
 
+  -- all that can be wrong behind the number of offers
   abbrev All-fault : Refusal → Type 0
   All-fault f = Weights-fault file n 2 f ⊎ (Rule-fault file n p f ⊎ (Second-fault f ⊎ End-fault f))
 
+  -- all behind the number of offers is good
   abbrev All-good : Problem → Type 0
   All-good z = (w : Unit {0}) × Weights-good file n 2 w × ((x : Rule) × Stands file n p x × ((y : Rule) × Stands file n (rule-end n x) y × End-good x y z))
 
+  -- reading all that follows the number of offers
   all-sound :
       Sound Problem
       (and-then (read-weights file n 2) (λ _. and-then (read-rule file n p) (λ x. and-then (read-rule file n (rule-end n x)) (λ y. read-end file n x y))))
@@ -157,6 +172,7 @@ module _ (file : List ℕ) (long : 2 ≤ length file) (some : 1 ≤ offers file)
   to-fault f (inr (inr (inl x))) = second some few (x .0) (x .1)
   to-fault f (inr (inr (inr x))) = subst (Fault file) (sym (x .3)) (too-long some few (x .0) (x .1) (x .2))
 
+  -- and there are no others
   from-fault : (f : Refusal) → Fault file f → All-fault f
   from-fault _ (no-number l) = absurd (omega arith)
   from-fault _ (wrong-number l (inl k)) = absurd (omega arith)
@@ -185,6 +201,7 @@ module _ (file : List ℕ) (long : 2 ≤ length file) (some : 1 ≤ offers file)
         whole = g .2 .2 .2 .1;
       })
 
+  -- and nothing else is asked for
   from-means : (z : Problem) → Means file z → All-good z
   from-means z m =
       let e : z .n ≡ n = m .number in
@@ -258,9 +275,11 @@ read-sound file =
 pub reads-meaning : Reads-meaning
 reads-meaning file problem = (read-sound file .ok-good problem, read-sound file .good-ok problem)
 
+-- a refusal is the first fault
 pub refuses-first : Refuses-first
 refuses-first file e h = read-sound file .err-first e h
 
+-- a meaning leaves no fault
 pub faultless : Faultless
 faultless file problem e m k = read-sound file .faultless problem m e k
 
@@ -268,3 +287,14 @@ faultless file problem e m k = read-sound file .faultless problem m e k
 pub read-cases : (file : List ℕ) (r : Result Problem Refusal) → r ≡ read file → Cases r (λ problem. Means file problem) (λ e. First (Fault file) e)
 read-cases file (Ok problem) h = read-sound file .ok-good problem (sym h)
 read-cases file (Err e) h = read-sound file .err-first e (sym h)
+
+-- a rule that stands in a file is well formed, so both rules of a problem are
+stands-well : (file : List ℕ) (n p : ℕ) (rule : Rule) → Stands file n p rule → Well file n rule
+stands-well file n p (Limits groups at) g = g .4
+stands-well file n p (Volunteers volunteers at) g = g .4
+stands-well file n p (Links towns at) g = g .4
+stands-well file n p (Rows prime long at) g = g .4
+
+-- both rules of a problem are well formed
+pub means-well : Means-well
+means-well file problem m = (stands-well file _ _ _ (m .first), stands-well file _ _ _ (m .second))

@@ -29,16 +29,20 @@ use Rattle.linear.specs.Rows as rows-spec
 abbrev pub Limits-good : List ℕ → ℕ → ℕ → ℕ → Type 0
 Limits-good file n p groups = (p + 1 ≤ length file) × (groups ≡ getD file p 0) × limits-spec.Well file n groups (p + 1)
 
+-- the same of volunteers
 abbrev pub Volunteers-good : List ℕ → ℕ → ℕ → ℕ → Type 0
 Volunteers-good file n p volunteers = (p + 2 ≤ length file) × (volunteers ≡ le2 file p) × volunteers-spec.Well file n volunteers (p + 2)
 
+-- of links
 abbrev pub Links-good : List ℕ → ℕ → ℕ → ℕ → Type 0
 Links-good file n p towns = (p + 2 ≤ length file) × (towns ≡ le2 file p) × graphic.Well file n towns (p + 2)
 
+-- of rows
 abbrev pub Rows-good : List ℕ → ℕ → ℕ → Shape → Type 0
 Rows-good file n p shape = (p + 2 ≤ length file) × (shape ≡ linear.shape-at file p) × rows-spec.Well file n (shape .prime) (shape .len) (p + 2)
 
 module _ (file : List ℕ) (n p : ℕ) where
+  -- what the reading of limits promises
   pub limits-sound : Sound ℕ (laminar.read file n p) (laminar.Fault file n p) (Limits-good file n p)
   limits-sound =
       record {
@@ -48,9 +52,11 @@ module _ (file : List ℕ) (n p : ℕ) where
         faultless = λ c g f k. limits.well-faultless file n p f (omega (arith, g .0)) (rw (g .1) at (g .2)) k;
       }
 
+  -- where the faults of limits are
   pub limits-located : (f : Refusal) → laminar.Fault file n p f → Located file p (laminar.end file n p) f
   limits-located f k = limits.fault-place file n p f k
 
+  -- what the reading of volunteers promises
   pub volunteers-sound : Sound ℕ (transversal.read file n p) (transversal.Fault file n p) (Volunteers-good file n p)
   volunteers-sound =
       record {
@@ -60,9 +66,11 @@ module _ (file : List ℕ) (n p : ℕ) where
         faultless = λ c g f k. volunteers.well-faultless file n p f (g .0) (rw (g .1) at (g .2)) k;
       }
 
+  -- where the faults of volunteers are
   pub volunteers-located : (f : Refusal) → transversal.Fault file n p f → Located file p (transversal.end file n p) f
   volunteers-located f k = volunteers.fault-place file n p f k
 
+  -- what the reading of links promises
   pub links-sound : Sound ℕ (graphic.read file n p) (graphic.Fault file n p) (Links-good file n p)
   links-sound =
       record {
@@ -72,9 +80,11 @@ module _ (file : List ℕ) (n p : ℕ) where
         faultless = λ c g f k. links.well-faultless file n p f (g .0) (rw (g .1) at (g .2)) k;
       }
 
+  -- where the faults of links are
   pub links-located : (f : Refusal) → graphic.Fault file n p f → Located file p (graphic.end file n p) f
   links-located f k = links.fault-place file n p f k
 
+  -- what the reading of rows promises
   pub rows-sound : Sound Shape (linear.read file n p) (linear.Fault file n p) (Rows-good file n p)
   rows-sound =
       record {
@@ -84,5 +94,6 @@ module _ (file : List ℕ) (n p : ℕ) where
         faultless = λ c g f k. rows.well-faultless file n p f (g .0) (rw (g .1) at (g .2)) k;
       }
 
+  -- where the faults of rows are
   pub rows-located : (f : Refusal) → linear.Fault file n p f → Located file p (linear.end file n p) f
   rows-located f k = rows.fault-place file n p f k

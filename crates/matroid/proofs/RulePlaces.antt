@@ -13,8 +13,8 @@ use Rattle.sets.specs.Refusals.{place}
 use Rattle.sets.specs.declared.refusal.Refusal.{Refusal}
 use Rattle.sets.specs.declared.refusal.Refusal.the-variants.{Length}
 use Rattle.sets.specs.declared.refusal.Source.the-variants.{Offers}
-use Rattle.matroid.specs.declared.Rule.{Rule}
-use Rattle.matroid.specs.declared.Rule.the-variants.{Limits, Volunteers, Links, Rows}
+use Rattle.matroid.specs.declared.rule.Rule.{Rule}
+use Rattle.matroid.specs.declared.rule.Rule.the-variants.{Limits, Volunteers, Links, Rows}
 use Rattle.matroid.specs.Problem.{rule-end, Stands}
 use Rattle.matroid.specs.Reading.{read-rule, end-kind, end-at, Known, Rule-fault}
 use Rattle.matroid.specs.Reading.Rule-fault.{no-kind, unknown, limits, volunteers, links, rows}

@@ -14,8 +14,8 @@ use Rattle.sets.specs.Refusals.{First, Precedes, place, number}
 use Rattle.sets.specs.declared.refusal.Refusal.{Refusal}
 use Rattle.sets.specs.declared.refusal.Refusal.the-variants.{Length, Kind}
 use Rattle.sets.specs.declared.refusal.Source.the-variants.{Offers}
-use Rattle.matroid.specs.declared.Rule.{Rule}
-use Rattle.matroid.specs.declared.Rule.the-variants.{Limits, Volunteers, Links, Rows}
+use Rattle.matroid.specs.declared.rule.Rule.{Rule}
+use Rattle.matroid.specs.declared.rule.Rule.the-variants.{Limits, Volunteers, Links, Rows}
 use Rattle.matroid.specs.Problem.{rule-end, Stands}
 use Rattle.matroid.specs.Reading.{and-then, read-kind, read-rule, end-kind, end-at, Known, Rule-fault}
 use Rattle.matroid.specs.Reading.Rule-fault.{no-kind, unknown, limits, volunteers, links, rows}
@@ -33,6 +33,7 @@ module _ {C : Type 0} (file : List ℕ) (n p kind : ℕ) (here : p < length file
     (s : Sound C r F G) (stands : (c : C) → G c → Stands file n p (rule c))
     (back : (x : Rule) → Stands file n p x → (c : C) × G c × (x ≡ rule c))
     (to : (f : Refusal) → F f → Rule-fault file n p f) (from : (f : Refusal) → Rule-fault file n p f → F f) where
+  -- then the rule is read as its kind is
   pub of-kind : Sound Rule (and-then r (λ c. Ok (rule c))) (Rule-fault file n p) (Stands file n p)
   of-kind = go r s
     where
@@ -71,6 +72,7 @@ by-kind file n p _ l (volunteers h i w) = (λ k. absurd (omega arith), λ k. w, 
 by-kind file n p _ l (links h i w) = (λ k. absurd (omega arith), λ k. absurd (omega arith), λ k. w, λ k. absurd (omega arith))
 by-kind file n p _ l (rows h i w) = (λ k. absurd (omega arith), λ k. absurd (omega arith), λ k. absurd (omega arith), λ k. w)
 
+-- a byte that is none of the four kinds
 no-other : (k : ℕ) → (k ≡ 1 → ⊥) → (k ≡ 2 → ⊥) → (k ≡ 3 → ⊥) → (k ≡ 4 → ⊥) → (k ≡ 0) ⊎ (4 < k)
 no-other k a b c d = grind arith
 
@@ -142,6 +144,7 @@ limits-rule file n p l k =
     back (Links c at) g = absurd (omega (arith, g .1))
     back (Rows c d at) g = absurd (omega (arith, g .1))
 
+-- volunteers
 volunteers-rule : (file : List ℕ) (n p : ℕ) → p < length file → getD file p 0 ≡ 2 →
     Sound Rule (and-then (transversal.read file n (p + 1)) (λ c. Ok (Volunteers c (p + 3)))) (Rule-fault file n p) (Stands file n p)
 volunteers-rule file n p l k =
@@ -157,6 +160,7 @@ volunteers-rule file n p l k =
     back (Links c at) g = absurd (omega (arith, g .1))
     back (Rows c d at) g = absurd (omega (arith, g .1))
 
+-- links
 links-rule : (file : List ℕ) (n p : ℕ) → p < length file → getD file p 0 ≡ 3 →
     Sound Rule (and-then (graphic.read file n (p + 1)) (λ c. Ok (Links c (p + 3)))) (Rule-fault file n p) (Stands file n p)
 links-rule file n p l k =
@@ -172,6 +176,7 @@ links-rule file n p l k =
     back (Volunteers c at) g = absurd (omega (arith, g .1))
     back (Rows c d at) g = absurd (omega (arith, g .1))
 
+-- rows
 rows-rule : (file : List ℕ) (n p : ℕ) → p < length file → getD file p 0 ≡ 4 →
     Sound Rule (and-then (linear.read file n (p + 1)) (λ c. Ok (Rows (c .prime) (c .len) (p + 3)))) (Rule-fault file n p) (Stands file n p)
 rows-rule file n p l k =

@@ -53,9 +53,11 @@ abbrev One-fault : List ℕ → ℕ → Refusal → Type 0
 One-fault file at f =
     ((f ≡ Length Offers (length file)) × (length file < at + 4)) ⊎ ((at + 4 ≤ length file) × (1000000 < le4 file at) × (f ≡ Weight at))
 
+-- the weight is there, and at most a million
 abbrev One-good : List ℕ → ℕ → Unit {0} → Type 0
 One-good file at _ = (at + 4 ≤ length file) × (le4 file at ≤ 1000000)
 
+-- where a fault of one weight is
 one-located : (file : List ℕ) (at : ℕ) (f : Refusal) → One-fault file at f → Located file at (at + 4) f
 one-located file at f w =
     ⊎-elim (λ (x : (f ≡ Length Offers (length file)) × (length file < at + 4)). inl x)
@@ -111,6 +113,7 @@ to-all file left at f w =
     inr (suc (x .0), omega (arith, x .1), omega (arith, x .2), rw q (x .3), rw q (x .4))) o)
     w
 
+-- a fault of all weights is one of the first or of the others
 from-all : (file : List ℕ) (left at : ℕ) (f : Refusal) → at + 4 ≤ length file ⊎ length file < at + 4 → Weights-fault file (suc left) at f →
     One-fault file at f ⊎ Weights-fault file left (at + 4) f
 from-all file left at f o w =
@@ -168,6 +171,7 @@ pub weights-stop : (file : List ℕ) (n i : ℕ) (e : Refusal) → i < n → rea
 weights-stop file n i e l inv h =
     sym (ap (λ (r : Result (Unit {0}) Refusal). and-then r (λ _. read-weights file (n - (i + 1)) (2 + 4 * (i + 1)))) h) ∙ sym (weights-step file n i l) ∙ inv
 
+-- it goes on where there is none
 pub weights-more : (file : List ℕ) (n i : ℕ) → i < n → read-weights file (n - i) (2 + 4 * i) ≡ read-weights file n 2 →
     read-weight file (2 + 4 * i) ≡ Ok tt →
     (2 + 4 * (i + 1) ≤ length file) × (read-weights file (n - (i + 1)) (2 + 4 * (i + 1)) ≡ read-weights file n 2)

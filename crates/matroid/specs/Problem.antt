@@ -4,8 +4,8 @@ use mathlib.Core.List.{List}
 use Prim.Native.Nat.{ℕ, _+_, _*_, _≤_, _<_}
 use lib.ListN.{length, getD}
 use Rattle.sets.specs.Bits.{le2, le4, row-bytes}
-use Rattle.matroid.specs.declared.Rule.{Rule}
-use Rattle.matroid.specs.declared.Rule.the-variants.{Limits, Volunteers, Links, Rows}
+use Rattle.matroid.specs.declared.rule.Rule.{Rule}
+use Rattle.matroid.specs.declared.rule.Rule.the-variants.{Limits, Volunteers, Links, Rows}
 use Rattle.matroid.specs.declared.problem.Problem.{Problem}
 use Rattle.laminar.specs.Limits as laminar
 use Rattle.transversal.specs.Volunteers as transversal

@@ -14,10 +14,11 @@ use Rattle.sets.specs.declared.refusal.Refusal.{Refusal}
 use Rattle.sets.specs.declared.refusal.Refusal.the-variants.{Length, Weight, Kind}
 use Rattle.sets.specs.declared.refusal.Refusal.the-variants as refused
 use Rattle.sets.specs.declared.refusal.Source.the-variants.{Offers}
-use Rattle.matroid.specs.declared.Rule.{Rule}
-use Rattle.matroid.specs.declared.Rule.the-variants.{Limits, Volunteers, Links, Rows}
+use Rattle.matroid.specs.declared.rule.Rule.{Rule}
+use Rattle.matroid.specs.declared.rule.Rule.the-variants.{Limits, Volunteers, Links, Rows}
 use Rattle.matroid.specs.declared.problem.Problem.{Problem}
 use Rattle.matroid.specs.Problem.{offers, weight-of, rules-at, rule-end, Means}
+use Rattle.matroid.specs.Rules.{Well}
 use Rattle.laminar.specs.Reading as laminar
 use Rattle.transversal.specs.Reading as transversal
 use Rattle.graphic.specs.Links as graphic
@@ -130,3 +131,8 @@ Refuses-first = (file : List ℕ) (e : Refusal) → read file ≡ Err e → Firs
 -- a file that means a problem has no fault
 abbrev pub Faultless : Type 0
 Faultless = (file : List ℕ) (problem : Problem) (e : Refusal) → Means file problem → Fault file e → ⊥
+
+-- both rules of a file that means a problem are well formed
+abbrev pub Means-well : Type 0
+Means-well =
+    (file : List ℕ) (problem : Problem) → Means file problem → Well file (problem .n) (problem .first) × Well file (problem .n) (problem .second)

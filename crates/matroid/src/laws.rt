@@ -1,6 +1,5 @@
-// What is proved of rules and of files of offers. Each function's contract names its theorem.
-ghost use Rattle.matroid.specs.Reading.{Reads-meaning, Refuses-first, Faultless};
-ghost use Rattle.matroid.specs.Rules.{Rules-matroid, Rules-natural, Means-well};
+// What is proved of files of offers. Each function's contract names its theorem.
+ghost use Rattle.matroid.specs.Reading.{Reads-meaning, Refuses-first, Faultless, Means-well};
 
 // A file is read exactly if it means a problem, and as that problem.
 pub fn reading_gives_the_meaning() -> u8
@@ -26,20 +25,6 @@ pub fn a_meaning_leaves_no_fault() -> u8
 // Both rules of a file that means a problem are well formed.
 pub fn a_meaning_has_good_rules() -> u8
     ensures { λ _. ⌜ Means-well ⌝ }
-{
-    0
-}
-
-// A well-formed rule of any kind is a matroid.
-pub fn rules_are_matroids() -> u8
-    ensures { λ _. ⌜ Rules-matroid ⌝ }
-{
-    0
-}
-
-// A rule allows what its kind allows in words.
-pub fn rules_allow_what_they_say() -> u8
-    ensures { λ _. ⌜ Rules-natural ⌝ }
 {
     0
 }

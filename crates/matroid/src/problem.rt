@@ -1,12 +1,12 @@
 // What a file of offers says: how many offers there are, what each weighs, and two rules.
 ghost use mathlib.Core.Path.{_≡_};
-ghost use Prim.Native.Nat.{ℕ, _+_, _*_, _≤_};
+ghost use Prim.Native.Nat.{ℕ, _+_, _*_, _^_, _<_, _≤_};
 ghost use lib.ListN.{length};
 ghost use Rattle.std.specs.Results.{Cases};
 ghost use Rattle.sets.specs.Refusals.{First};
 ghost use Rattle.matroid.specs.Problem.{weight-of, rule-end, Means};
 ghost use Rattle.matroid.specs.Reading.{read-weight, read-weights, read-rule, read-second, read-rules, read, Fault};
-use crate::Rule;
+use crate::rule::Rule;
 use sets::numbers::read_u16;
 use sets::numbers::read_u32;
 use sets::refusal::Refusal;
@@ -26,6 +26,25 @@ pub fn weight(file: &[u8], i: usize) -> u32
     ensures { λ r. ⌜ r ≡ weight-of (now (file .entry)) i ⌝ }
 {
     read_u32(file, 2 + 4 * i)
+}
+
+impl Rule {
+    // The place behind the rule.
+    pub fn end(self, n: usize) -> usize
+        requires { ⌜ n ≤ 600 ⌝ ∗ ⌜ rule-end n self < 2 ^ 64 ⌝ }
+        ensures { λ r. ⌜ r ≡ rule-end n self ⌝ }
+    {
+        match self {
+            Rule::Limits { groups, at } => at + groups * (2 + (n + 7) / 8),
+            Rule::Volunteers { volunteers, at } => at + volunteers * ((n + 7) / 8),
+            Rule::Links { towns: _, at } => at + 4 * n,
+            Rule::Rows {
+                prime: _,
+                length,
+                at,
+            } => at + n * length,
+        }
+    }
 }
 
 // Is a weight there at `at`, of at most a million?

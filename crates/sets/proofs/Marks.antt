@@ -26,6 +26,7 @@ pub member-spread : (xs : List ℕ) (i : ℕ) → member xs i ≡ spread 8 xs i
 unfolding member
 member-spread xs i = refl
 
+-- and so are sets in words
 pub marked-spread : (xs : List ℕ) (i : ℕ) → marked xs i ≡ spread 32 xs i
 unfolding marked
 marked-spread xs i = refl
@@ -39,6 +40,7 @@ same-place w i j p q =
 pub spread-same : (w : ℕ) (xs : List ℕ) (v j : ℕ) → j / w < length xs → spread w (set xs (j / w) v) j ≡ bit v (j % w)
 spread-same w xs v j h = ap (λ (x : ℕ). bit x (j % w)) (getD-set-same xs (j / w) v 0 h)
 
+-- a bit of another number stays
 pub spread-other : (w : ℕ) (xs : List ℕ) (p v j : ℕ) → (j / w ≡ p → ⊥) → spread w (set xs p v) j ≡ spread w xs j
 spread-other w xs p v j h = ap (λ (x : ℕ). bit x (j % w)) (getD-set-other xs p (j / w) v 0 h)
 
@@ -64,10 +66,12 @@ one-bit w xs v i j new id h each pos =
     spread-other w xs (i / w) v j e ∙ sym (id (spread w xs j)) ∙ ap (λ (b : Bool). new (spread w xs j) b) (sym differ))
     (cases-eq (j / w) (i / w))
 
+-- or with false changes nothing
 or-none : (b : Bool) → (b || false) ≡ b
 or-none true = refl
 or-none false = refl
 
+-- and with not false changes nothing
 and-all : (b : Bool) → (b && not false) ≡ b
 and-all true = refl
 and-all false = refl
@@ -99,6 +103,7 @@ pub insert-at : (w : ℕ) (xs : List ℕ) (i p q : ℕ) → p ≡ i / w → q �
     spread w (set xs p (bitOr (getD xs p 0) ((1 * 2 ^ q) % 2 ^ w))) j ≡ (spread w xs j || eqb j i)
 insert-at w xs i p q e f pos h j = let l : i / w < length xs = omega arith in rw (e, f) (spread-insert w xs i pos l j)
 
+-- the same of taking out
 pub remove-at : (w : ℕ) (xs : List ℕ) (i p q : ℕ) → p ≡ i / w → q ≡ i % w → 0 < w → p < length xs → (j : ℕ) →
     spread w (set xs p (bitAnd (getD xs p 0) (2 ^ w - 1 - (1 * 2 ^ q) % 2 ^ w))) j ≡ (spread w xs j && not (eqb j i))
 remove-at w xs i p q e f pos h j = let l : i / w < length xs = omega arith in rw (e, f) (spread-remove w xs i pos l j)
@@ -116,5 +121,6 @@ size-more s i = rw add-one
 pub count-in : (s : Set) (i total new : ℕ) → (total ≡ size i s) × (total ≤ i) → s i ≡ true → new ≡ total + 1 → (new ≡ size (i + 1) s) × (new ≤ i + 1)
 count-in s i total new (e, l) h f = let m = size-more s i in let p = ap (λ (b : Bool). pick {A = ℕ} b 1 0) h in (omega arith, omega arith)
 
+-- and over one that is not
 pub count-out : (s : Set) (i total new : ℕ) → (total ≡ size i s) × (total ≤ i) → s i ≡ false → new ≡ total → (new ≡ size (i + 1) s) × (new ≤ i + 1)
 count-out s i total new (e, l) h f = let m = size-more s i in let p = ap (λ (b : Bool). pick {A = ℕ} b 1 0) h in (omega arith, omega arith)

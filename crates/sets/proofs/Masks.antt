@@ -16,6 +16,7 @@ use Rattle.sets.specs.Bits.{xor}
 abbrev pub bit : ℕ → ℕ → Bool
 bit v k = eqb (v / 2 ^ k % 2) 1
 
+-- or, and, xor of two numbers below 2 are those of the tests for 1
 or-small : (x y : ℕ) → x < 2 → y < 2 → eqb (bitOr x y) 1 ≡ (eqb x 1 || eqb y 1)
 or-small zero zero p q = refl
 or-small zero (suc zero) p q = refl
@@ -25,6 +26,7 @@ or-small (suc (suc x)) y p q = absurd (omega arith)
 or-small zero (suc (suc y)) p q = absurd (omega arith)
 or-small (suc zero) (suc (suc y)) p q = absurd (omega arith)
 
+-- the same of and
 and-small : (x y : ℕ) → x < 2 → y < 2 → eqb (bitAnd x y) 1 ≡ (eqb x 1 && eqb y 1)
 and-small zero zero p q = refl
 and-small zero (suc zero) p q = refl
@@ -34,6 +36,7 @@ and-small (suc (suc x)) y p q = absurd (omega arith)
 and-small zero (suc (suc y)) p q = absurd (omega arith)
 and-small (suc zero) (suc (suc y)) p q = absurd (omega arith)
 
+-- the same of xor
 xor-small : (x y : ℕ) → x < 2 → y < 2 → eqb (bitXor x y) 1 ≡ xor (eqb x 1) (eqb y 1)
 xor-small zero zero p q = refl
 xor-small zero (suc zero) p q = refl
@@ -43,6 +46,7 @@ xor-small (suc (suc x)) y p q = absurd (omega arith)
 xor-small zero (suc (suc y)) p q = absurd (omega arith)
 xor-small (suc zero) (suc (suc y)) p q = absurd (omega arith)
 
+-- xor with true is not
 flipped : (b : Bool) → xor b true ≡ not b
 flipped true = refl
 flipped false = refl
@@ -53,11 +57,13 @@ bit-or a b k =
     ap (λ (v : ℕ). eqb (v % 2) 1) (or-shr a b k) ∙ ap (λ (v : ℕ). eqb v 1) (or-mod (a / 2 ^ k) (b / 2 ^ k) 1)
     ∙ or-small (a / 2 ^ k % 2) (b / 2 ^ k % 2) (omega arith) (omega arith)
 
+-- a bit of an and
 pub bit-and : (a b k : ℕ) → bit (bitAnd a b) k ≡ (bit a k && bit b k)
 bit-and a b k =
     ap (λ (v : ℕ). eqb (v % 2) 1) (and-shr a b k) ∙ ap (λ (v : ℕ). eqb v 1) (and-mod (a / 2 ^ k) (b / 2 ^ k) 1)
     ∙ and-small (a / 2 ^ k % 2) (b / 2 ^ k % 2) (omega arith) (omega arith)
 
+-- a bit of a xor
 pub bit-xor : (a b k : ℕ) → bit (bitXor a b) k ≡ xor (bit a k) (bit b k)
 bit-xor a b k =
     ap (λ (v : ℕ). eqb (v % 2) 1) (xor-shr a b k) ∙ ap (λ (v : ℕ). eqb v 1) (xor-mod (a / 2 ^ k) (b / 2 ^ k) 1)
@@ -70,12 +76,14 @@ bit-above v k j h l =
     let p : v < 2 ^ j = omega arith in
     ap (λ (x : ℕ). eqb (x % 2) 1) (div-eq-of-lt p)
 
+-- below the shift a shifted number has no bits
 shl-under : (v d j s : ℕ) → s ≡ suc d + j → bit (v * 2 ^ s) j ≡ false
 shl-under v d j s e =
     ap (λ (x : ℕ). bit (v * 2 ^ x) j) e ∙ ap (λ (x : ℕ). bit (v * x) j) (pow-add 2 (suc d) j)
     ∙ ap (λ (x : ℕ). bit x j) (sym (mul-assoc v (2 ^ suc d) (2 ^ j)))
     ∙ ap (λ (x : ℕ). eqb (x % 2) 1) (shl-shr (v * 2 ^ suc d) j) ∙ ap (λ (x : ℕ). eqb x 1) (shifted-even v d)
 
+-- from the shift on it has those of the number
 shl-over : (v d s j : ℕ) → j ≡ s + d → bit (v * 2 ^ s) j ≡ bit v d
 shl-over v d s j e =
     ap (λ (x : ℕ). bit (v * 2 ^ s) x) e ∙ ap (λ (x : ℕ). eqb (x % 2) 1) (sym (shr-shr (v * 2 ^ s) s d))
@@ -97,6 +105,7 @@ bit-shl v s j =
 pub bit-shr : (v s j : ℕ) → bit (v / 2 ^ s) j ≡ bit v (s + j)
 bit-shr v s j = ap (λ (x : ℕ). eqb (x % 2) 1) (shr-shr v s j)
 
+-- the low m bits keep a bit below m
 low-under : (v d j m : ℕ) → m ≡ d + 1 + j → bit (v % 2 ^ m) j ≡ bit v j
 low-under v d j m e =
     ap (λ (x : ℕ). bit (v % 2 ^ x) j) e ∙ ap (λ (x : ℕ). eqb (x % 2) 1) (field-of v (d + 1) j)
@@ -113,6 +122,7 @@ bit-low v m j =
     cc)
     (cases-lt j m)
 
+-- 1 has bit 0 only
 bit-of-one : (d : ℕ) → bit 1 d ≡ eqb d 0
 bit-of-one zero = refl
 bit-of-one (suc d) = let e = bit-above 1 1 (suc d) (omega arith) (omega arith) in grind arith
@@ -129,6 +139,7 @@ bit-pow k j =
 pub bit-one : (w k j : ℕ) → k < w → bit ((1 * 2 ^ k) % 2 ^ w) j ≡ eqb j k
 bit-one w k j h = ap (λ (x : ℕ). bit x j) (one-shl k w h) ∙ bit-pow k j
 
+-- 2 ^ w - 1 has all bits below w
 bit-mask : (w j : ℕ) → j < w → bit (2 ^ w - 1) j ≡ true
 bit-mask w j h =
     let m = and-mask (2 ^ j) w in

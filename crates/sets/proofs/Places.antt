@@ -32,6 +32,7 @@ rows-apart base m y z k h ne =
 pub row-with : (xs ys : List ℕ) (at i : ℕ) → ((j : ℕ) → marked ys j ≡ (marked xs j || eqb j (32 * at + i))) → (j : ℕ) → word-row ys at j ≡ with (word-row xs at) i j
 row-with xs ys at i h j = h (32 * at + j) ∙ ap (λ (b : Bool). marked xs (32 * at + j) || b) (eqb-shift (32 * at) i j)
 
+-- the same of an element that came out
 pub row-without : (xs ys : List ℕ) (at i : ℕ) → ((j : ℕ) → marked ys j ≡ (marked xs j && not (eqb j (32 * at + i)))) → (j : ℕ) → word-row ys at j ≡ without (word-row xs at) i j
 row-without xs ys at i h j = h (32 * at + j) ∙ ap (λ (b : Bool). marked xs (32 * at + j) && not b) (eqb-shift (32 * at) i j)
 

@@ -22,9 +22,11 @@ pub record Rewritten (f : ℕ → ℕ) (at k : ℕ) (xs ys : List ℕ) : Type 0 
 pub rewritten-none : (f : ℕ → ℕ) (at : ℕ) (xs : List ℕ) → Rewritten f at 0 xs xs
 rewritten-none f at xs = record { new = λ p h. absurd (omega arith); rest = λ p h. refl }
 
+-- a place outside of k + 1 places is not the last of them
 apart : (at k p : ℕ) → (p < at) ⊎ (at + (k + 1) ≤ p) → p ≡ at + k → ⊥
 apart at k p o e = ⊎-elim (λ (l : p < at). omega arith) (λ (l : at + (k + 1) ≤ p). omega arith) o
 
+-- and is outside of the first k
 wider : (at k p : ℕ) → (p < at) ⊎ (at + (k + 1) ≤ p) → (p < at) ⊎ (at + k ≤ p)
 wider at k p o = ⊎-elim (λ (l : p < at). inl l) (λ (l : at + (k + 1) ≤ p). inr (omega arith)) o
 
@@ -90,6 +92,7 @@ word-row-is xs at j =
     let q : (32 * at + j) % 32 ≡ j % 32 = omega arith in
     cc
 
+-- the same of bytes
 pub row-is : (xs : List ℕ) (at j : ℕ) → row xs at j ≡ bit (getD xs (at + j / 8) 0) (j % 8)
 unfolding member
 row-is xs at j =
@@ -105,6 +108,7 @@ marks-outside at k xs ys s j o =
     let e = s (j / 32) w in
     cc
 
+-- the same of bytes
 pub members-outside : (at k : ℕ) (xs ys : List ℕ) → Same-but at k xs ys → (j : ℕ) → (j < 8 * at) ⊎ (8 * (at + k) ≤ j) → member ys j ≡ member xs j
 unfolding member
 members-outside at k xs ys s j o =

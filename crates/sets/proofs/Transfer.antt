@@ -31,12 +31,15 @@ byte-into w b r q i h l =
 abbrev pub Loaded : List ℕ → ℕ → ℕ → List ℕ → ℕ → ℕ → ℕ → Type 0
 Loaded bytes at n words to len k = (j : ℕ) → j < 32 * len → word-row words to j ≡ (ltb j (8 * k) && (ltb j n && row bytes at j))
 
+-- bit j of the same word, behind byte k, is eight bits or more from where byte k begins
 far : (j k : ℕ) → 8 * k ≤ j → (j / 8 ≡ k → ⊥) → j / 32 ≡ k / 4 → 8 ≤ j % 32 - 8 * (k % 4)
 far j k q p w = ⊎-elim (λ (l : j < 8 * k + 8). absurd (p (omega arith))) (λ (l : 8 * k + 8 ≤ j). omega arith) (cases-lt j (8 * k + 8))
 
+-- and is not below 8 * (k + 1)
 past : (j k : ℕ) → 8 * k ≤ j → (j / 8 ≡ k → ⊥) → 8 * (k + 1) ≤ j
 past j k q p = ⊎-elim (λ (l : j < 8 * k + 8). absurd (p (omega arith))) (λ (l : 8 * k + 8 ≤ j). omega arith) (cases-lt j (8 * k + 8))
 
+-- neither the old bit nor the byte has anything there
 settled : (a c v old new x y z : Bool) → old ≡ (a && v) → new ≡ (old || (x && (y && z))) → a ≡ false → c ≡ false → z ≡ false → new ≡ (c && v)
 settled a c v old new x y z o e p q r = grind arith
 
@@ -63,6 +66,7 @@ turn j n k b old new there h l o e w t =
     (cases-lt j (8 * k)))
     (cases-eq (j / 8) k)
 
+-- a bit that is not in byte k is below byte k + 1 just where it is below byte k
 later : (j k : ℕ) → (j / 8 ≡ k → ⊥) → ltb j (8 * k) ≡ ltb j (8 * (k + 1))
 later j k q =
     ⊎-elim
@@ -70,9 +74,11 @@ later j k q =
     (λ (l : 8 * k ≤ j). le-ltb j (8 * k) l ∙ sym (le-ltb j (8 * (k + 1)) (past j k l q)))
     (cases-lt j (8 * k))
 
+-- a bit below n is in one of the bytes of n bits
 bound : (j n k : ℕ) → k ≡ (n + 7) / 8 → ltb j n ≡ true → j < 8 * k
 bound j n k e f = let l = ltb-true j n f in omega arith
 
+-- a test that follows from another may be left out
 all : (a b c : Bool) → (b ≡ true → a ≡ true) → (a && (b && c)) ≡ (b && c)
 all a b c h = grind arith
 
