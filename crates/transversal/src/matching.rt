@@ -11,7 +11,7 @@ ghost use Rattle.std.specs.Options.{Cases as BySome};
 ghost use Rattle.sets.specs.Bits.{word-row, marked};
 ghost use Rattle.sets.specs.Matroid.{with, size};
 ghost use Rattle.transversal.specs.Volunteers.{Tends};
-ghost use Rattle.transversal.specs.Pairs.{at, can-by, matched, Paired, Queued, Leads, Stuck};
+ghost use Rattle.transversal.specs.Pairs.{at, can-by, matched, Paired, Queued, Leads, Stuck, Hands};
 use sets::words::clear_row;
 use sets::words::contains;
 use sets::words::insert;
@@ -104,9 +104,29 @@ fn reach(
     false
 }
 
+// A free volunteer who can look after offer x, if there is one.
+fn free_for(
+    rows: &[u32],
+    n: usize,
+    volunteers: usize,
+    width: usize,
+    owner: &[u32],
+    x: usize,
+) -> Option<usize>
+    requires { ⌜ volunteers ≤ 600 ⌝ ∗ ⌜ n ≤ 32 * width ⌝ ∗ ⌜ x < n ⌝ ∗ ⌜ (n + 601) * width ≤ length (now rows) ⌝ ∗ ⌜ volunteers ≤ length (now owner) ⌝ }
+    ensures { λ r. ⌜ Hands (can-by (now (rows .entry)) n width) n volunteers (at (now (owner .entry))) x r ⌝ }
+{
+    for v in 0..volunteers {
+        if owner[v] as usize >= n && contains(rows, (n + 1 + v) * width, x) {
+            return Some(v);
+        }
+    }
+    None
+}
+
 // Gives offer x a volunteer: x takes the one that the queue has for it, the offer that had it takes its own, and so on to a free
 // volunteer. Where that cannot be the answer is false, and nothing is changed.
-fn place(
+fn place_along(
     rows: &[u32],
     n: usize,
     volunteers: usize,
@@ -151,6 +171,31 @@ fn place(
         tends[z] = 600;
         y = z;
     }
+}
+
+// Gives offer x a volunteer, a free one or along exchanges. Where that cannot be the answer is false, and nothing is changed.
+fn place(
+    rows: &[u32],
+    n: usize,
+    volunteers: usize,
+    width: usize,
+    tends: &mut [u32],
+    owner: &mut [u32],
+    x: usize,
+) -> bool
+    requires small { ⌜ n ≤ 600 ⌝ ∗ ⌜ volunteers ≤ 600 ⌝ ∗ ⌜ width ≤ 19 ⌝ ∗ ⌜ n ≤ 32 * width ⌝ ∗ ⌜ x < n ⌝ }
+    requires tables { ⌜ (n + 601) * width ≤ length (now rows) ⌝ ∗ ⌜ n ≤ length (now tends) ⌝ ∗ ⌜ volunteers ≤ length (now owner) ⌝ }
+    requires pairs { ⌜ Paired (can-by (now rows) n width) n volunteers (at (now tends)) (at (now owner)) ⌝ ∗ ⌜ volunteers ≤ at (now tends) x ⌝ }
+    ensures pairs { λ r. ⌜ (r ≡ true → Paired (can-by (now (rows .entry)) n width) n volunteers (at (now (tends .exit))) (at (now (owner .exit)))) ⌝ }
+    ensures more { λ r. ⌜ (r ≡ true → (u : ℕ) → u < n → matched volunteers (at (now (tends .exit))) u ≡ with (matched volunteers (at (now (tends .entry)))) x u) ⌝ }
+    ensures stuck { λ r. ⌜ (r ≡ false → Stuck (can-by (now (rows .entry)) n width) n volunteers (at (now (tends .entry))) (at (now (owner .entry))) x) ⌝ }
+{
+    if let Some(v) = free_for(rows, n, volunteers, width, owner, x) {
+        owner[v] = x as u32;
+        tends[x] = v as u32;
+        return true;
+    }
+    place_along(rows, n, volunteers, width, tends, owner, x)
 }
 
 // Gives each offer of the set a volunteer of its own; false where that cannot be, and then `tends` and `owner` are free.
