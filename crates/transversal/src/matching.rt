@@ -47,7 +47,7 @@ fn fresh(rows: &[u32], from: usize, reached: &[u32], n: usize, width: usize) -> 
     None
 }
 
-// Writes the free volunteers into the queue: how many there are.
+// Writes the free volunteers into the queue: how many there are. The places behind them are free.
 fn free_volunteers(n: usize, volunteers: usize, owner: &[u32], queue: &mut [u32]) -> usize
     requires { ⌜ volunteers ≤ length (now owner) ⌝ ∗ ⌜ volunteers ≤ length (now queue) ⌝ ∗ ⌜ volunteers ≤ 600 ⌝ }
     ensures { λ r. ⌜ Queued n volunteers (at (now (owner .entry))) (at (now (queue .exit))) r ⌝ }
@@ -63,6 +63,7 @@ fn free_volunteers(n: usize, volunteers: usize, owner: &[u32], queue: &mut [u32]
 }
 
 // Is a free volunteer come to from offer x? Then the queue leads there: `via[y]` is the place in it of the volunteer whom y takes.
+// What `reached` holds after is free, and where the answer is false `queue` and `via` are, too.
 fn reach(
     rows: &[u32],
     n: usize,
@@ -125,7 +126,7 @@ fn free_for(
 }
 
 // Gives offer x a volunteer: x takes the one that the queue has for it, the offer that had it takes its own, and so on to a free
-// volunteer. Where that cannot be the answer is false, and nothing is changed.
+// volunteer. Where that cannot be the answer is false, and `tends` and `owner` are free.
 fn place_along(
     rows: &[u32],
     n: usize,
@@ -173,7 +174,7 @@ fn place_along(
     }
 }
 
-// Gives offer x a volunteer, a free one or along exchanges. Where that cannot be the answer is false, and nothing is changed.
+// Gives offer x a volunteer, a free one or along exchanges. Where that cannot be the answer is false, and `tends` and `owner` are free.
 fn place(
     rows: &[u32],
     n: usize,
@@ -199,7 +200,7 @@ fn place(
 }
 
 // Gives each offer of the set a volunteer of its own; false where that cannot be, and then `tends` and `owner` are free.
-pub fn match_all(
+pub(crate) fn match_all(
     rows: &[u32],
     n: usize,
     volunteers: usize,
