@@ -125,9 +125,9 @@ fn free_for(
     None
 }
 
-// Gives offer x a volunteer: x takes the one that the queue has for it, the offer that had it takes its own, and so on to a free
+// Gives offer x a volunteer: a free one, or x takes the one that the queue has for it, the offer that had it takes its own, and so on to a free
 // volunteer. Where that cannot be the answer is false, and `tends` and `owner` are free.
-fn place_along(
+fn place(
     rows: &[u32],
     n: usize,
     volunteers: usize,
@@ -143,6 +143,11 @@ fn place_along(
     ensures more { λ r. ⌜ (r ≡ true → (u : ℕ) → u < n → matched volunteers (at (now (tends .exit))) u ≡ with (matched volunteers (at (now (tends .entry)))) x u) ⌝ }
     ensures stuck { λ r. ⌜ (r ≡ false → Stuck (can-by (now (rows .entry)) n width) n volunteers (at (now (tends .entry))) (at (now (owner .entry))) x) ⌝ }
 {
+    if let Some(helper) = free_for(rows, n, volunteers, width, owner, x) {
+        owner[helper] = x as u32;
+        tends[x] = helper as u32;
+        return true;
+    }
     let mut reached = [0u32; 19];
     let mut queue = [0u32; 1200];
     let mut via = [0u32; 600];
@@ -172,31 +177,6 @@ fn place_along(
         tends[z] = 600;
         y = z;
     }
-}
-
-// Gives offer x a volunteer, a free one or along exchanges. Where that cannot be the answer is false, and `tends` and `owner` are free.
-fn place(
-    rows: &[u32],
-    n: usize,
-    volunteers: usize,
-    width: usize,
-    tends: &mut [u32],
-    owner: &mut [u32],
-    x: usize,
-) -> bool
-    requires small { ⌜ n ≤ 600 ⌝ ∗ ⌜ volunteers ≤ 600 ⌝ ∗ ⌜ width ≤ 19 ⌝ ∗ ⌜ n ≤ 32 * width ⌝ ∗ ⌜ x < n ⌝ }
-    requires tables { ⌜ (n + 601) * width ≤ length (now rows) ⌝ ∗ ⌜ n ≤ length (now tends) ⌝ ∗ ⌜ volunteers ≤ length (now owner) ⌝ }
-    requires pairs { ⌜ Paired (can-by (now rows) n width) n volunteers (at (now tends)) (at (now owner)) ⌝ ∗ ⌜ volunteers ≤ at (now tends) x ⌝ }
-    ensures pairs { λ r. ⌜ (r ≡ true → Paired (can-by (now (rows .entry)) n width) n volunteers (at (now (tends .exit))) (at (now (owner .exit)))) ⌝ }
-    ensures more { λ r. ⌜ (r ≡ true → (u : ℕ) → u < n → matched volunteers (at (now (tends .exit))) u ≡ with (matched volunteers (at (now (tends .entry)))) x u) ⌝ }
-    ensures stuck { λ r. ⌜ (r ≡ false → Stuck (can-by (now (rows .entry)) n width) n volunteers (at (now (tends .entry))) (at (now (owner .entry))) x) ⌝ }
-{
-    if let Some(v) = free_for(rows, n, volunteers, width, owner, x) {
-        owner[v] = x as u32;
-        tends[x] = v as u32;
-        return true;
-    }
-    place_along(rows, n, volunteers, width, tends, owner, x)
 }
 
 // Gives each offer of the set a volunteer of its own; false where that cannot be, and then `tends` and `owner` are free.

@@ -3,7 +3,7 @@ use Prim.Native.Nat.{ℕ, _≤_}
 use lib.ListN.{length}
 use Rattle.transversal.specs.Pairs.{at, can-by, matched}
 use Rattle.transversal.proofs.Pairing.{Shifting}
-use Rattle.transversal.proofs.matching.place_along.Given as given
+use Rattle.transversal.proofs.matching.place.Given as given
 
 abbrev pub Inv-loop-queue : given.InvT-loop-queue
 Inv-loop-queue l =
