@@ -205,3 +205,16 @@ module _ (can : ℕ → ℕ → Bool) (n volunteers : ℕ) (s : Set) (x : ℕ) (
         rw (at-set tends y (queue (via y)) a, at-set owner (queue (via y)) y d) (e .0),
         λ u k. ap (λ (f : ℕ → ℕ). matched volunteers f u) (at-set tends y (queue (via y)) a) ∙ e .1 u k,
       )
+
+-- offer x takes a free volunteer
+pub take-free : (can : ℕ → ℕ → Bool) (n volunteers : ℕ) (tends owner : List ℕ) (x v : ℕ) → Paired can n volunteers (at tends) (at owner) → x < n → volunteers ≤ at tends x →
+    n ≤ length tends → volunteers ≤ length owner → v < volunteers → n ≤ at owner v → can v x ≡ true →
+    Paired can n volunteers (at (set tends x v)) (at (set owner v x))
+    × ((u : ℕ) → u < n → matched volunteers (at (set tends x v)) u ≡ with (matched volunteers (at tends)) x u)
+take-free can n volunteers tends owner x v p h out long wide low free fit = (
+  rw (at-set tends x v (omega arith), at-set owner v x (omega arith)) (pair-free can n volunteers (at tends) (at owner) x v p h out low fit free),
+  λ u k. ap (λ (f : ℕ → ℕ). matched volunteers f u) (at-set tends x v (omega arith)) ∙ took u,
+)
+  where
+    took : (u : ℕ) → matched volunteers (put (at tends) x v) u ≡ with (matched volunteers (at tends)) x u
+    took u = ⊎-elim (λ e. grind arith) (λ d. grind arith) (cases-eq u x)

@@ -6,6 +6,8 @@ use mathlib.Core.Logic.{_⊎_}
 use Prim.Native.Nat.{ℕ, zero, suc, _+_, _*_, _≤_, _<_}
 use lib.Dec.{ltb, leb}
 use lib.ListN.{getD}
+use Rattle.std.specs.declared.option.Option.{Option}
+use Rattle.std.specs.declared.option.Option.the-variants.{Some, None}
 use Rattle.sets.specs.Matroid.{Set}
 use Rattle.transversal.specs.Volunteers.{in-row, some}
 
@@ -54,6 +56,11 @@ pub record Shut (can : ℕ → ℕ → Bool) (n volunteers : ℕ) (f o : ℕ →
 -- no free volunteer is come to from offer x
 abbrev pub Stuck : (ℕ → ℕ → Bool) → ℕ → ℕ → (ℕ → ℕ) → (ℕ → ℕ) → ℕ → Type 0
 Stuck can n volunteers f o x = (reached : Set) × Shut can n volunteers f o reached × (reached x ≡ false)
+
+-- a free volunteer who can look after x, where one is named
+abbrev pub Hands : (ℕ → ℕ → Bool) → ℕ → ℕ → (ℕ → ℕ) → ℕ → Option ℕ → Type 0
+Hands can n volunteers o x None = Unit {0}
+Hands can n volunteers o x (Some v) = (v < volunteers) × (n ≤ o v) × (can v x ≡ true)
 
 -- x is come to from row k along rows of offers below n
 pub data Chain (n : ℕ) (t : ℕ → ℕ → Bool) : ℕ → ℕ → Type 0 where

@@ -11,7 +11,7 @@ ghost use Rattle.std.specs.Options.{Cases as BySome};
 ghost use Rattle.sets.specs.Bits.{word-row, marked};
 ghost use Rattle.sets.specs.Matroid.{with, size};
 ghost use Rattle.transversal.specs.Volunteers.{Tends};
-ghost use Rattle.transversal.specs.Pairs.{at, can-by, matched, Paired, Queued, Leads, Stuck};
+ghost use Rattle.transversal.specs.Pairs.{at, can-by, matched, Paired, Queued, Leads, Stuck, Hands};
 use sets::words::clear_row;
 use sets::words::contains;
 use sets::words::insert;
@@ -47,7 +47,7 @@ fn fresh(rows: &[u32], from: usize, reached: &[u32], n: usize, width: usize) -> 
     None
 }
 
-// Writes the free volunteers into the queue: how many there are.
+// Writes the free volunteers into the queue: how many there are. The places behind them are free.
 fn free_volunteers(n: usize, volunteers: usize, owner: &[u32], queue: &mut [u32]) -> usize
     requires { ⌜ volunteers ≤ length (now owner) ⌝ ∗ ⌜ volunteers ≤ length (now queue) ⌝ ∗ ⌜ volunteers ≤ 600 ⌝ }
     ensures { λ r. ⌜ Queued n volunteers (at (now (owner .entry))) (at (now (queue .exit))) r ⌝ }
@@ -63,6 +63,7 @@ fn free_volunteers(n: usize, volunteers: usize, owner: &[u32], queue: &mut [u32]
 }
 
 // Is a free volunteer come to from offer x? Then the queue leads there: `via[y]` is the place in it of the volunteer whom y takes.
+// What `reached` holds after is free, and where the answer is false `queue` and `via` are, too.
 fn reach(
     rows: &[u32],
     n: usize,
@@ -104,8 +105,28 @@ fn reach(
     false
 }
 
-// Gives offer x a volunteer: x takes the one that the queue has for it, the offer that had it takes its own, and so on to a free
-// volunteer. Where that cannot be the answer is false, and nothing is changed.
+// A free volunteer who can look after offer x, if there is one.
+fn free_for(
+    rows: &[u32],
+    n: usize,
+    volunteers: usize,
+    width: usize,
+    owner: &[u32],
+    x: usize,
+) -> Option<usize>
+    requires { ⌜ volunteers ≤ 600 ⌝ ∗ ⌜ n ≤ 32 * width ⌝ ∗ ⌜ x < n ⌝ ∗ ⌜ (n + 601) * width ≤ length (now rows) ⌝ ∗ ⌜ volunteers ≤ length (now owner) ⌝ }
+    ensures { λ r. ⌜ Hands (can-by (now (rows .entry)) n width) n volunteers (at (now (owner .entry))) x r ⌝ }
+{
+    for v in 0..volunteers {
+        if owner[v] as usize >= n && contains(rows, (n + 1 + v) * width, x) {
+            return Some(v);
+        }
+    }
+    None
+}
+
+// Gives offer x a volunteer: a free one, or x takes the one that the queue has for it, the offer that had it takes its own, and so on to a free
+// volunteer. Where that cannot be the answer is false, and `tends` and `owner` are free.
 fn place(
     rows: &[u32],
     n: usize,
@@ -122,6 +143,11 @@ fn place(
     ensures more { λ r. ⌜ (r ≡ true → (u : ℕ) → u < n → matched volunteers (at (now (tends .exit))) u ≡ with (matched volunteers (at (now (tends .entry)))) x u) ⌝ }
     ensures stuck { λ r. ⌜ (r ≡ false → Stuck (can-by (now (rows .entry)) n width) n volunteers (at (now (tends .entry))) (at (now (owner .entry))) x) ⌝ }
 {
+    if let Some(helper) = free_for(rows, n, volunteers, width, owner, x) {
+        owner[helper] = x as u32;
+        tends[x] = helper as u32;
+        return true;
+    }
     let mut reached = [0u32; 19];
     let mut queue = [0u32; 1200];
     let mut via = [0u32; 600];
@@ -154,7 +180,7 @@ fn place(
 }
 
 // Gives each offer of the set a volunteer of its own; false where that cannot be, and then `tends` and `owner` are free.
-pub fn match_all(
+pub(crate) fn match_all(
     rows: &[u32],
     n: usize,
     volunteers: usize,

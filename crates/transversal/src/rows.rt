@@ -15,8 +15,8 @@ use sets::words::copy_within;
 use sets::words::load_row;
 use sets::words::or_row;
 
-// Reads the volunteers' rows from the file.
-pub fn load_rows(file: &[u8], n: usize, volunteers: usize, place: usize, state: &mut [u32])
+// Reads the volunteers' rows from the file; the other rows are free.
+pub(crate) fn load_rows(file: &[u8], n: usize, volunteers: usize, place: usize, state: &mut [u32])
     requires { ⌜ n ≤ 600 ⌝ ∗ ⌜ volunteers ≤ 600 ⌝ ∗ ⌜ place + volunteers * row-bytes n ≤ length (now file) ⌝ ∗ ⌜ (n + 601) * row-words n ≤ length (now state) ⌝ }
     ensures { λ _. ⌜ ((v x : ℕ) → v < volunteers → x < n → can-by (now (state .exit)) n (row-words n) v x ≡ can-tend (now (file .entry)) n place v x) ⌝ }
 {
@@ -32,7 +32,13 @@ pub fn load_rows(file: &[u8], n: usize, volunteers: usize, place: usize, state: 
 }
 
 // The row of each offer becomes that of its volunteer, and is empty where it has none.
-pub fn start_rows(n: usize, volunteers: usize, width: usize, tends: &[u32], state: &mut [u32])
+pub(crate) fn start_rows(
+    n: usize,
+    volunteers: usize,
+    width: usize,
+    tends: &[u32],
+    state: &mut [u32],
+)
     requires { ⌜ n ≤ 32 * width ⌝ ∗ ⌜ volunteers ≤ 600 ⌝ ∗ ⌜ n ≤ length (now tends) ⌝ ∗ ⌜ (n + 601) * width ≤ length (now state) ⌝ }
     ensures rows { λ _. ⌜ ((y x : ℕ) → y < n → x < n → in-row (now (state .exit)) width y x ≡ start (can-by (now (state .entry)) n width) volunteers (at (now (tends .entry))) y x) ⌝ }
     ensures rest { λ _. ⌜ ((k x : ℕ) → n ≤ k → x < n → in-row (now (state .exit)) width k x ≡ in-row (now (state .entry)) width k x) ⌝ }
@@ -48,7 +54,13 @@ pub fn start_rows(n: usize, volunteers: usize, width: usize, tends: &[u32], stat
 }
 
 // Row n becomes the rows of the free volunteers together.
-pub fn start_free(n: usize, volunteers: usize, width: usize, owner: &[u32], state: &mut [u32])
+pub(crate) fn start_free(
+    n: usize,
+    volunteers: usize,
+    width: usize,
+    owner: &[u32],
+    state: &mut [u32],
+)
     requires { ⌜ n ≤ 32 * width ⌝ ∗ ⌜ volunteers ≤ 600 ⌝ ∗ ⌜ volunteers ≤ length (now owner) ⌝ ∗ ⌜ (n + 601) * width ≤ length (now state) ⌝ }
     ensures free { λ _. ⌜ ((x : ℕ) → x < n → in-row (now (state .exit)) width n x ≡ start-free (can-by (now (state .entry)) n width) n volunteers (at (now (owner .entry))) x) ⌝ }
     ensures rest { λ _. ⌜ ((k x : ℕ) → (k ≡ n → ⊥) → x < n → in-row (now (state .exit)) width k x ≡ in-row (now (state .entry)) width k x) ⌝ }
@@ -61,7 +73,7 @@ pub fn start_free(n: usize, volunteers: usize, width: usize, owner: &[u32], stat
     }
 }
 
-// Each row up to n that has offer j takes the row of j, too.
+// Each row up to n that has offer j takes the row of j, too; the rows behind row n are free.
 fn close_through(n: usize, width: usize, j: usize, state: &mut [u32])
     requires { ⌜ n ≤ 32 * width ⌝ ∗ ⌜ j < n ⌝ ∗ ⌜ (n + 601) * width ≤ length (now state) ⌝ }
     ensures { λ _. ⌜ ((k x : ℕ) → k ≤ n → x < n → in-row (now (state .exit)) width k x ≡ through (in-row (now (state .entry)) width) j k x) ⌝ }
@@ -74,7 +86,8 @@ fn close_through(n: usize, width: usize, j: usize, state: &mut [u32])
 }
 
 // Closes the rows up to n: row k has every offer that is come to from it. The rows of offers outside of the set are empty.
-pub fn close_rows(n: usize, width: usize, set: &[u32], state: &mut [u32])
+// The rows behind row n are free.
+pub(crate) fn close_rows(n: usize, width: usize, set: &[u32], state: &mut [u32])
     requires long { ⌜ n ≤ 32 * width ⌝ ∗ ⌜ width ≤ length (now set) ⌝ ∗ ⌜ (n + 601) * width ≤ length (now state) ⌝ }
     requires empty { ⌜ ((y x : ℕ) → y < n → x < n → marked (now set) y ≡ false → in-row (now state) width y x ≡ false) ⌝ }
     ensures chains { λ _. ⌜ ((k x : ℕ) → k ≤ n → x < n → in-row (now (state .exit)) width k x ≡ true → Chain n (in-row (now (state .entry)) width) k x) ⌝ }

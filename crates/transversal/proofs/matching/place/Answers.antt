@@ -1,7 +1,7 @@
 use mathlib.Core.Path.{refl}
 use native.Mathlib.Omega.{arith}
 use Rattle.transversal.specs.Pairs.{at}
-use Rattle.transversal.proofs.Pairing.{shift-start, shift-low, shift-write, shift-done}
+use Rattle.transversal.proofs.Pairing.{take-free, shift-start, shift-low, shift-write, shift-done}
 use Rattle.transversal.proofs.matching.place.Needs as need
 
 pub loop-queue-holds : need.loop-queue-holds
@@ -45,11 +45,11 @@ cast-z c = let v = shift-low _ _ _ _ _ (at (c .reach .last .queue)) (at (c .reac
 pub offset-owner-v : need.offset-owner-v
 offset-owner-v c = let v = shift-low _ _ _ _ _ (at (c .reach .last .queue)) (at (c .reach .last .via)) (c .loop-queue .tends) (c .loop-queue .owner) (c .loop-queue .y) (c .loop-queue .inv) (omega arith) (omega arith) in let s = c .pre .small in omega arith
 
-pub cast-owner : need.cast-owner
-cast-owner c = let y = c .loop-queue .inv .inside in let s = c .pre .small in omega arith
-
 pub cast-owner-in-loop-queue : need.cast-owner-in-loop-queue
-cast-owner-in-loop-queue c = let v = shift-low _ _ _ _ _ (at (c .reach .last .queue)) (at (c .reach .last .via)) (c .loop-queue .tends) (c .loop-queue .owner) (c .loop-queue .y) (c .loop-queue .inv) (omega arith) (omega arith) in let s = c .pre .small in omega arith
+cast-owner-in-loop-queue c = let y = c .loop-queue .inv .inside in let s = c .pre .small in omega arith
+
+pub cast-owner-in-loop-queue-2 : need.cast-owner-in-loop-queue-2
+cast-owner-in-loop-queue-2 c = let v = shift-low _ _ _ _ _ (at (c .reach .last .queue)) (at (c .reach .last .via)) (c .loop-queue .tends) (c .loop-queue .owner) (c .loop-queue .y) (c .loop-queue .inv) (omega arith) (omega arith) in let s = c .pre .small in omega arith
 
 pub offset-owner-v-in-loop-queue : need.offset-owner-v-in-loop-queue
 offset-owner-v-in-loop-queue c = let v = shift-low _ _ _ _ _ (at (c .reach .last .queue)) (at (c .reach .last .via)) (c .loop-queue .tends) (c .loop-queue .owner) (c .loop-queue .y) (c .loop-queue .inv) (omega arith) (omega arith) in let s = c .pre .small in omega arith
@@ -59,3 +59,10 @@ offset-tends-y c = let y = c .loop-queue .inv .inside in let s = c .pre .small i
 
 pub index-tends-y : need.index-tends-y
 index-tends-y c = let y = c .loop-queue .inv .inside in omega arith
+
+pub returns-in-Some : need.returns-in-Some
+returns-in-Some c =
+    let h = c .in-Some .ensures tt in
+    let e = take-free _ (c .args .n) (c .args .volunteers) (c .args .tends .now) (c .args .owner .now) (c .args .x) (c .in-Some .helper) (c .pre .pairs .0) (omega arith) (c .pre .pairs .1)
+    (omega arith) (omega arith) (h .0) (h .1) (h .2) in
+    record { pairs = λ _. e .0; more = λ _. e .1; stuck = λ d. absurd (grind arith) }
