@@ -16,7 +16,7 @@ use crate::vectors::number_at;
 use crate::vectors::value;
 use sets::words;
 
-// Adds c times row y to the first numbers of `sum`.
+// Adds c times row y to the first numbers of `sum`; behind them it is free.
 fn add_row(
     file: &[u8],
     n: usize,
@@ -37,7 +37,7 @@ fn add_row(
     add_multiple(sum, 0, &row, 0, len, prime, c);
 }
 
-// The rest of row x by the dual basis of the set's rows below m.
+// The rest of row x by the dual basis of the set's rows below m; behind its numbers `sum` is free.
 fn find_rest(
     file: &[u8],
     n: usize,
@@ -64,7 +64,7 @@ fn find_rest(
     }
 }
 
-// The functional that takes `scale` times number q of a row.
+// The functional that takes `scale` times number q of a row; behind its numbers `sum` is free.
 fn unit(len: usize, q: usize, scale: u64, sum: &mut [u32])
     requires { ⌜ len ≤ length (now sum) ⌝ ∗ ⌜ scale ≤ 251 ⌝ }
     ensures { λ _. ⌜ ((j : ℕ) → j < len → getD (now (sum .exit)) j 0 ≡ pick (eqb j q) scale 0) ⌝ }
@@ -74,7 +74,7 @@ fn unit(len: usize, q: usize, scale: u64, sum: &mut [u32])
     }
 }
 
-// That functional made 0 at the set's rows below m by their dual basis.
+// That functional made 0 at the set's rows below m by their dual basis; behind its numbers `sum` is free.
 fn find_functional(
     file: &[u8],
     n: usize,
@@ -102,7 +102,7 @@ fn find_functional(
     }
 }
 
-// Makes the functionals of the set's rows below r zero at row r, by multiples of g.
+// Makes the functionals of the set's rows below r zero at row r, by multiples of g; the rest of the state is free.
 fn correct(
     file: &[u8],
     n: usize,

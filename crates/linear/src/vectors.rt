@@ -25,7 +25,7 @@ pub fn number_at(file: &[u8], n: usize, prime: u64, len: usize, at: usize, i: us
     file[at + i * len + j]
 }
 
-// Row i in words.
+// Row i in words; behind its numbers `row` is free.
 pub fn load(file: &[u8], n: usize, prime: u64, len: usize, at: usize, i: usize, row: &mut [u32])
     requires well { ⌜ Well (now file) n prime len at ⌝ }
     requires row { ⌜ i < n ⌝ ∗ ⌜ n ≤ 600 ⌝ }
@@ -60,7 +60,7 @@ pub fn value(
     sum % prime
 }
 
-// Adds c times the numbers from `from` on to those from `to` on, modulo the prime.
+// Adds c times the numbers from `from` on to those from `to` on, modulo the prime; the other numbers stay.
 pub fn add_multiple(
     target: &mut [u32],
     to: usize,
