@@ -20,12 +20,14 @@ arc-inside f g s v u r p q h =
     h ∙ sym (ap (λ (b : Bool). pick b (not (s u) && f (with (without s v) u)) (s u && g (with (without s u) v))) p
     ∙ ap (λ (b : Bool). not b && f (with (without s v) u)) q)
 
+-- .. from outside
 pub arc-outside : (f g : Set → Bool) (s : Set) (v u : ℕ) (r : Bool) → s v ≡ false → s u ≡ true → r ≡ g (with (without s u) v) → r ≡ arc f g s v u
 unfolding arc
 arc-outside f g s v u r p q h =
     h ∙ sym (ap (λ (b : Bool). pick b (not (s u) && f (with (without s v) u)) (s u && g (with (without s u) v))) p
     ∙ ap (λ (b : Bool). b && g (with (without s u) v)) q)
 
+-- .. and none between elements of one side
 pub arc-none : (f g : Set → Bool) (s : Set) (v u : ℕ) → s u ≡ s v → arc f g s v u ≡ false
 unfolding arc
 arc-none f g s v u p = none (s v) (s u) (f (with (without s v) u)) (g (with (without s u) v)) p
@@ -41,6 +43,7 @@ arc-by-first f g s v u p =
     ap (λ (b : Bool). pick b (not (s u) && f (with (without s v) u)) (s u && f (with (without s u) v))) p
     ∙ sym (ap (λ (b : Bool). pick b (not (s u) && f (with (without s v) u)) (s u && g (with (without s u) v))) p)
 
+-- .. from outside only the second
 pub arc-by-second : (f g : Set → Bool) (s : Set) (v u : ℕ) → s v ≡ false → arc g g s v u ≡ arc f g s v u
 unfolding arc
 arc-by-second f g s v u p =
@@ -51,6 +54,7 @@ arc-by-second f g s v u p =
 abbrev pub others : Set → Bool → ℕ → ℕ
 others s inside u = pick inside (u - size u s) (size u s)
 
+-- how many are in the set with one element more
 counted : (s : Set) (u : ℕ) (b : Bool) → s u ≡ b → size (suc u) s ≡ pick b 1 0 + size u s
 counted s u b p = ap {B = ℕ} (λ (x : Bool). pick x 1 0 + size u s) p
 
@@ -59,13 +63,16 @@ others-in : (s : Set) (inside : Bool) (u : ℕ) → s u ≡ not inside → other
 others-in s true u p = let l = size-le u s in let e = counted s u false p in omega (arith, e)
 others-in s false u p = let e = counted s u true p in omega (arith, e)
 
+-- .. and on the same side
 others-out : (s : Set) (inside : Bool) (u : ℕ) → s u ≡ inside → others s inside (suc u) ≡ others s inside u
 others-out s true u p = let l = size-le u s in let e = counted s u true p in omega (arith, e)
 others-out s false u p = let e = counted s u false p in omega (arith, e)
 
+-- the count so far goes on where one more is on the other side
 pub others-more : (s : Set) (inside : Bool) (u asked : ℕ) → s u ≡ not inside → asked ≡ others s inside u → asked + 1 ≡ others s inside (u + 1)
 others-more s inside u asked p q = ap (λ (x : ℕ). x + 1) q ∙ sym (others-in s inside u p) ∙ ap (others s inside) (sym (add-one u))
 
+-- .. and stays where it is on the same side
 pub others-same : (s : Set) (inside : Bool) (u asked : ℕ) → s u ≡ inside → asked ≡ others s inside u → asked ≡ others s inside (u + 1)
 others-same s inside u asked p q = q ∙ sym (others-out s inside u p) ∙ ap (others s inside) (sym (add-one u))
 
@@ -81,6 +88,7 @@ sides-differ true false h = refl
 sides-differ false true h = refl
 sides-differ false false h = h
 
+-- .. where they do not differ they are the same
 pub sides-agree : (a b : Bool) → not (Bool·beq a b) ≡ false → a ≡ b
 sides-agree true true h = refl
 sides-agree true false h = h
@@ -113,6 +121,7 @@ rows-next s n k v =
     omega (arith, a, b, c))
     (cases-bool (s v))
 
+-- the count goes on by one row
 pub rows-more : (s : Set) (n k v asked r : ℕ) → asked ≡ rows-ask s n k v → r ≡ pick (s v) (n - k) k → asked + r ≡ rows-ask s n k (v + 1)
 rows-more s n k v asked r p q =
     ap (λ (x : ℕ). x + r) p ∙ ap (λ (x : ℕ). rows-ask s n k v + x) q ∙ sym (rows-next s n k v) ∙ ap (rows-ask s n k) (sym (add-one v))
@@ -125,6 +134,7 @@ rows-small s n k v p q r =
     let b : (v - size v s) * k ≤ 600 * 600 = mul-le (v - size v s) k 600 600 (omega arith) (omega arith) in
     omega arith
 
+-- nor is the count of one row
 pub pick-small : (b : Bool) (n k : ℕ) → n ≤ 600 → k ≤ n → pick b (n - k) k ≤ 600
 pick-small true n k p q = omega arith
 pick-small false n k p q = omega arith
@@ -134,6 +144,7 @@ pub addable-said : (f : Set → Bool) (s : Set) (x : ℕ) (r : Bool) → s x ≡
 unfolding addable
 addable-said f s x r p q = q ∙ sym (ap (λ (b : Bool). not b && f (with s x)) p)
 
+-- .. and an element of the set cannot be added
 pub addable-not : (f : Set → Bool) (s : Set) (x : ℕ) → s x ≡ true → addable f s x ≡ false
 unfolding addable
 addable-not f s x p = ap (λ (b : Bool). not b && f (with s x)) p

@@ -67,12 +67,14 @@ same-cell n r i j v u p q h =
     y ∙ ap (λ (b : Bool). b && eqb j u) (sym z))
     (cases-order i v)
 
+-- a bit after it is set
 in-or : (b e : Bool) → (b || e) ≡ pick e true b
 in-or true true = refl
 in-or false true = refl
 in-or true false = refl
 in-or false false = refl
 
+-- a bit after it is cleared
 out-of : (b e : Bool) → (b && not e) ≡ pick e false b
 out-of true true = refl
 out-of false true = refl
@@ -87,6 +89,7 @@ cell-in n old new v u h each i j q =
     each (32 * (row-words n * i) + j) ∙ in-or (marked old (32 * (row-words n * i) + j)) _
     ∙ ap (λ (b : Bool). pick b true (marked old (32 * (row-words n * i) + j))) (same-cell n (row-words n) i j v u (omega arith) q h)
 
+-- .. and after one is cleared
 pub cell-out : (n : ℕ) (old new : List ℕ) (v u : ℕ) → u < n → ((p : ℕ) → marked new p ≡ (marked old p && not (eqb p (32 * (row-words n * v) + u)))) →
     (i j : ℕ) → j < n → table n new i j ≡ pick (eqb i v && eqb j u) false (table n old i j)
 unfolding table
@@ -102,6 +105,7 @@ row-written n old new v u there g each p q here below j h =
     written (table n new v) (table n old v) g u there j
     (each v j p (omega arith) ∙ ap (λ (b : Bool). pick (b && eqb j u) there (table n old v j)) (eq-eqb v v refl)) here h (below j)
 
+-- the other rows stay
 pub rows-kept : (n : ℕ) (old new : List ℕ) (v u : ℕ) (there : Bool) →
     ((i j : ℕ) → i < n → j < n → table n new i j ≡ pick (eqb i v && eqb j u) there (table n old i j)) →
     (i j : ℕ) → i < n → j < n → (i ≡ v → ⊥) → table n new i j ≡ table n old i j

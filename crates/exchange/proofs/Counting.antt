@@ -8,6 +8,7 @@ use lib.Dec.{eqb, ltb, leb}
 use Rattle.std.proofs.shelf.Tests.{cases-lt, cases-eq}
 use Rattle.sets.specs.Matroid.{pick, Set, size}
 
+-- an element counts at most once
 pick-le : (b : Bool) → pick b 1 0 ≤ 1
 pick-le true = omega arith
 pick-le false = omega arith

@@ -23,6 +23,7 @@ pub record Grown (n : ℕ) (to : ℕ → ℕ → Bool) (old here : Set) (i : ℕ
   pub closed : grown ≡ false → (v x : ℕ) → v < i → x < n → to v x ≡ true → here x ≡ true → here v ≡ true
   pub least : (t : Set) → Backwards n to t → Within n old t → Within n here t
 
+-- before the first element
 pub grown-none : (n : ℕ) (to : ℕ → ℕ → Bool) (old : Set) → Grown n to old old 0 false
 grown-none n to old = record {
   larger = λ x h. h;

@@ -39,6 +39,7 @@ least-pass i among d k t h off = (
   extend (λ (v : ℕ). among v ≡ true → Before (d t) (k t) (d v) (k v) ≡ true) i (h .2) (λ q. absurd (both-ways (among i) off q)),
 )
 
+-- i is no better
 pub least-stay : (i : ℕ) (among : Set) (d k : ℕ → ℕ) (t : ℕ) → Least i among d k t → Before (d t) (k t) (d i) (k i) ≡ true → Least (i + 1) among d k t
 least-stay i among d k t h b =
     (omega (arith, h .0), h .1, extend (λ (v : ℕ). among v ≡ true → Before (d t) (k t) (d v) (k v) ≡ true) i (h .2) (λ _. b))

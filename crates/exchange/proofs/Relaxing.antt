@@ -20,13 +20,16 @@ Partly n to c settled reached d k back m i after e l ahead =
 no-change : (b r : Bool) → b ≡ false → r ≡ (r || b)
 no-change b r h = grind arith
 
+-- a choice that is not taken
 picks-second : (b : Bool) (x y : ℕ) → b ≡ false → y ≡ pick b x y
 picks-second true x y h = absurd (both-ways true h refl)
 picks-second false x y h = refl
 
+-- nothing lies below 0
 not-below : (u : ℕ) (b : Bool) → (ltb u 0 && b) ≡ false
 not-below u b = grind arith
 
+-- before the first head
 pub partly-none : (n : ℕ) (to : ℕ → ℕ → Bool) (c : ℕ → ℕ → ℕ) (settled reached : Set) (d k back : ℕ → ℕ) (m : ℕ) →
     Partly n to c settled reached d k back m 0 reached d k back
 unfolding Partly
@@ -49,9 +52,11 @@ same-which e l m which other reached after d k back d′ k′ back′ u q h = re
   backs = h .backs ∙ ap (λ (b : Bool). pick b m (back u)) q;
 }
 
+-- all lie below the end
 below-all : (u i n : ℕ) (b : Bool) → u < n → n ≤ i → (ltb u i && b) ≡ b
 below-all u i n b h l = grind arith
 
+-- after the last head
 pub partly-all : (n : ℕ) (to : ℕ → ℕ → Bool) (c : ℕ → ℕ → ℕ) (settled reached : Set) (d k back : ℕ → ℕ) (m i : ℕ) (after : Set) (e l ahead : ℕ → ℕ) →
     Partly n to c settled reached d k back m i after e l ahead → n ≤ i → (u : ℕ) → u < n →
     Changed (λ u. d m + c m u) (k m + 1) m (bettered to c settled reached d k m) reached after d k back e l ahead u
@@ -77,6 +82,7 @@ then-none e f l m which other all reached now after d k back d′ k′ back′ d
       backs = g .backs ∙ sym (picks-second (other u) m (back′ u) off) ∙ h .backs;
     }
 
+-- .. the second
 none-then : (e f : ℕ → ℕ) (l m : ℕ) (which other all reached now after : Set) (d k back d′ k′ back′ d″ k″ back″ : ℕ → ℕ) (u : ℕ) →
     which u ≡ false → (now u ≡ reached u → d′ u ≡ d u → k′ u ≡ k u → other u ≡ all u) → f u ≡ e u →
     Changed e l m which reached now d k back d′ k′ back′ u → Changed f l m other now after d′ k′ back′ d″ k″ back″ u →
@@ -94,9 +100,11 @@ none-then e f l m which other all reached now after d k back d′ k′ back′ d
       backs = g .backs ∙ ap (λ (z : ℕ). pick (other u) m z) x ∙ ap (λ (z : Bool). pick z m (back u)) q;
     }
 
+-- no number lies below itself
 not-itself : (i : ℕ) (b : Bool) → (ltb i i && b) ≡ false
 not-itself i b = grind arith
 
+-- the head at hand is followed where its arc is there and it is not settled
 itself : (i : ℕ) (t s b : Bool) → t ≡ true → s ≡ false → (eqb i i && b) ≡ (ltb i (i + 1) && (t && not s && b))
 itself i t s b p q = grind arith
 

@@ -20,10 +20,12 @@ use Rattle.exchange.proofs.Rounds.{addable-from, to-out, to-in, to-sides, from
 shifted : (d k e l c p q : ℕ) → p ≤ q → c ≡ q - p → Before d k (e + c) l ≡ true → Before (d + p) k (e + q) l ≡ true
 shifted d k e l c p q h r b = grind arith
 
+-- the cost of an arc out of the set
 cost-out : (s : Set) (w a : ℕ → ℕ) (v u : ℕ) → s v ≡ true → cost s w a v u ≡ a v - a u
 unfolding cost
 cost-out s w a v u e = ap (λ (b : Bool). pick b (a v - a u) ((w u + a v) - (w v + a u))) e
 
+-- the cost of an arc into the set
 cost-in : (s : Set) (w a : ℕ → ℕ) (v u : ℕ) → s v ≡ false → cost s w a v u ≡ (w u + a v) - (w v + a u)
 unfolding cost
 cost-in s w a v u e = ap (λ (b : Bool). pick b (a v - a u) ((w u + a v) - (w v + a u))) e
@@ -31,6 +33,7 @@ cost-in s w a v u e = ap (λ (b : Bool). pick b (a v - a u) ((w u + a v) - (w v 
 module _ (n : ℕ) (f g : Set → Bool) (s : Set) (arcs sources sinks : List ℕ) (holds : Tables n f g s arcs sources sinks)
     (w a : ℕ → ℕ) (reached : Set) (d k back : ℕ → ℕ)
     (labels : Shortest n (table n arcs) (cost s w a) (marked sources) reached d k back) where
+  -- a source stands in its row
   source-there : (x : ℕ) → x < n → s x ≡ false → f (with s x) ≡ true → marked sources x ≡ true
   source-there x p o h = holds .each-source x p ∙ addable-from f s x o h
 
@@ -126,6 +129,7 @@ module _ (n : ℕ) (f g : Set → Bool) (s : Set) (arcs sources sinks : List ℕ
   none-ends u None e h lead = is-closed u h lead
   none-ends u (Some t) e h lead = absurd (both-ways true e refl)
 
+  -- .. where there is an end
   pub some-ends : (u : Set) (o : Option ℕ) → isSome o ≡ true → Ended o → Cases o (Closed n f g s u) (λ t. End n g w a s reached d k t)
   some-ends u None e h = absurd (both-ways false refl e)
   some-ends u (Some t) e h = is-end n f g s arcs sources sinks holds w a reached d k t h

@@ -21,6 +21,7 @@ addable-parts f s x h = let p = and-parts (not (s x)) (f (with s x)) h in (oppos
     opposite true e = sym e
     opposite false e = refl
 
+-- an outside element that the test allows can be added
 pub addable-from : (f : Set → Bool) (s : Set) (x : ℕ) → s x ≡ false → f (with s x) ≡ true → addable f s x ≡ true
 unfolding addable
 addable-from f s x p q = ap (λ (b : Bool). not b && f (with s x)) p ∙ q
@@ -31,11 +32,13 @@ out-parts true true x y h e = absurd (both-ways false refl h)
 out-parts true false x y h e = (refl, h)
 out-parts false c x y h e = absurd (both-ways false refl e)
 
+-- .. from outside
 in-parts : (b c x y : Bool) → pick b (not c && x) (c && y) ≡ true → b ≡ false → (c ≡ true) × (y ≡ true)
 in-parts true c x y h e = absurd (both-ways true e refl)
 in-parts false true x y h e = (refl, h)
 in-parts false false x y h e = absurd (both-ways false refl h)
 
+-- tail and head are on different sides
 tail-side : (b c x y : Bool) → pick b (not c && x) (c && y) ≡ true → b ≡ not c
 tail-side true true x y h = sym h
 tail-side true false x y h = refl
@@ -43,30 +46,36 @@ tail-side false true x y h = refl
 tail-side false false x y h = h
 
 module _ (n : ℕ) (f g : Set → Bool) (s : Set) (arcs sources sinks : List ℕ) (holds : Tables n f g s arcs sources sinks) where
+  -- an arc of the table from inside
   pub to-out : (v u : ℕ) → v < n → u < n → table n arcs v u ≡ true → s v ≡ true → (s u ≡ false) × (f (with (without s v) u) ≡ true)
   unfolding arc
   to-out v u p q t e = out-parts (s v) (s u) (f (with (without s v) u)) (g (with (without s u) v)) (sym (holds .each-arc v u p q) ∙ t) e
 
+  -- an arc of the table from outside
   pub to-in : (v u : ℕ) → v < n → u < n → table n arcs v u ≡ true → s v ≡ false → (s u ≡ true) × (g (with (without s u) v) ≡ true)
   unfolding arc
   to-in v u p q t e = in-parts (s v) (s u) (f (with (without s v) u)) (g (with (without s u) v)) (sym (holds .each-arc v u p q) ∙ t) e
 
+  -- an arc of the table joins different sides
   pub to-sides : (v u : ℕ) → v < n → u < n → table n arcs v u ≡ true → s v ≡ not (s u)
   unfolding arc
   to-sides v u p q t = tail-side (s v) (s u) (f (with (without s v) u)) (g (with (without s u) v)) (sym (holds .each-arc v u p q) ∙ t)
 
+  -- an exchange by the first test is an arc of the table
   pub from-out : (v u : ℕ) → v < n → u < n → s v ≡ true → s u ≡ false → f (with (without s v) u) ≡ true → table n arcs v u ≡ true
   unfolding arc
   from-out v u p q a b c =
       holds .each-arc v u p q ∙ ap (λ (x : Bool). pick x (not (s u) && f (with (without s v) u)) (s u && g (with (without s u) v))) a
       ∙ ap (λ (x : Bool). not x && f (with (without s v) u)) b ∙ c
 
+  -- an exchange by the second test is an arc of the table
   pub from-in : (v u : ℕ) → v < n → u < n → s v ≡ false → s u ≡ true → g (with (without s u) v) ≡ true → table n arcs v u ≡ true
   unfolding arc
   from-in v u p q a b c =
       holds .each-arc v u p q ∙ ap (λ (x : Bool). pick x (not (s u) && f (with (without s v) u)) (s u && g (with (without s u) v))) a
       ∙ ap (λ (x : Bool). x && g (with (without s u) v)) b ∙ c
 
+  -- a source of its row is outside and can be added
   pub source-parts : (x : ℕ) → x < n → marked sources x ≡ true → (s x ≡ false) × (f (with s x) ≡ true)
   source-parts x p h = addable-parts f s x (sym (holds .each-source x p) ∙ h)
 
@@ -79,6 +88,7 @@ module _ (n : ℕ) (f g : Set → Bool) (s : Set) (arcs sources sinks : List ℕ
     low = λ x p. let b = st .small x p in omega arith;
   }
 
+  -- the sources have no potential
   pub sources-free : (w a : ℕ → ℕ) (loss : ℕ) → State n f g w a loss s → (x : ℕ) → x < n → marked sources x ≡ true → a x ≡ 0
   sources-free w a loss st x p h = let y = source-parts x p h in st .sources x p (y .0) (y .1)
 

@@ -36,50 +36,65 @@ complete n to c source settled reached d k back h all = record {
 pub before-trans : (d k e l f m : ℕ) → Before d k e l ≡ true → Before e l f m ≡ true → Before d k f m ≡ true
 before-trans d k e l f m p q = grind arith
 
+-- a way gets worse with every arc
 before-more : (d k c : ℕ) → Before d k (d + c) (k + 1) ≡ true
 before-more d k c = grind arith
 
+-- no label is better than itself
 pub before-refl : (v m : ℕ) (d k : ℕ → ℕ) → v ≡ m → Before (d v) (k v) (d m) (k m) ≡ true
 before-refl v m d k s = grind arith
 
+-- the order of equal labels, on the left
 before-at : (d k e l f m : ℕ) → e ≡ d → l ≡ k → Before d k f m ≡ true → Before e l f m ≡ true
 before-at d k e l f m p q h = grind arith
 
+-- .. and on the right
 before-onto : (d k e l f m : ℕ) → e ≡ d → l ≡ k → Before f m d k ≡ true → Before f m e l ≡ true
 before-onto d k e l f m p q h = grind arith
 
+-- equal labels are in order
 before-same : (d k e l : ℕ) → e ≡ d → l ≡ k → Before e l d k ≡ true
 before-same d k e l p q = grind arith
 
+-- of two labels one is no worse
 pub before-other : (d k e l : ℕ) → Before d k e l ≡ false → Before e l d k ≡ true
 before-other d k e l h = grind arith
 
+-- the order stays where the label before the arc is equal
 before-to : (d k e l f m c : ℕ) → f ≡ e → m ≡ l → Before d k (e + c) (l + 1) ≡ true → Before d k (f + c) (m + 1) ≡ true
 before-to d k e l f m c p q h = grind arith
 
+-- .. and where the element is
 before-from : (x y : ℕ → ℕ) (d k v m : ℕ) → v ≡ m → Before d k (x m) (y m) ≡ true → Before d k (x v) (y v) ≡ true
 before-from x y d k v m p h = grind arith
 
+-- a source has the best of labels
 first-before : (d k e m : ℕ) → d ≡ 0 → k ≡ 1 → Before d k e (m + 1) ≡ true
 first-before d k e m p q = grind arith
 
+-- where the way is not better, there is a label and it is no worse
 not-better : (t s r b : Bool) → t ≡ true → s ≡ false → (t && not s && (not r || not b)) ≡ false → (r ≡ true) × (b ≡ true)
 not-better t s r b p q h = grind arith
 
+-- a choice that is taken
 pub pick-true : {A : Type 0} (b : Bool) (x y z : A) → b ≡ true → z ≡ pick b x y → z ≡ x
 pick-true true x y z p q = q
 pick-true false x y z p q = absurd (both-ways false refl p)
 
+-- a choice that is not taken
 pub pick-false : {A : Type 0} (b : Bool) (x y z : A) → b ≡ false → z ≡ pick b x y → z ≡ y
 pick-false true x y z p q = absurd (both-ways true p refl)
 pick-false false x y z p q = q
 
+-- in one of two sets
 pub or-true : (a b c : Bool) → b ≡ true → c ≡ (a || b) → c ≡ true
 or-true a b c p q = grind arith
 
+-- not in the second of two sets
 pub or-false : (a b c : Bool) → b ≡ false → c ≡ (a || b) → c ≡ a
 or-false a b c p q = grind arith
 
+-- where the way is better: there is an arc, the head is not settled, and its label is worse
 pub better-parts : (t s r b : Bool) → (t && not s && (not r || not b)) ≡ true → (t ≡ true) × (s ≡ false) × (r ≡ true → b ≡ false)
 better-parts true false r true p = (refl, refl, λ q. grind arith)
 better-parts true false r false p = (refl, refl, λ q. refl)
@@ -93,6 +108,7 @@ module _ (n : ℕ) (to : ℕ → ℕ → Bool) (c : ℕ → ℕ → ℕ) (source
     (least : (v : ℕ) → v < n → reached v ≡ true → settled v ≡ false → Before (d m) (k m) (d v) (k v) ≡ true)
     (joined : (v : ℕ) → v < n → done v ≡ (settled v || eqb v m))
     (each : (u : ℕ) → u < n → Changed (λ u. d m + c m u) (k m + 1) m (bettered to c done reached d k m) reached after d k back e l ahead u) where
+  -- the elements whose label is bettered
   abbrev which : Set
   which = bettered to c done reached d k m
 
@@ -102,6 +118,7 @@ module _ (n : ℕ) (to : ℕ → ℕ → Bool) (c : ℕ → ℕ → ℕ) (source
     move : to m u ≡ true → done u ≡ false → (reached u ≡ true → Before (d u) (k u) (d m + c m u) (k m + 1) ≡ false) →
         e u ≡ d m + c m u → l u ≡ k m + 1 → ahead u ≡ m → after u ≡ true → Way u
 
+  -- which of the two it is
   way : (u : ℕ) → u < n → Way u
   way u p =
       let x = each u p in
@@ -123,9 +140,11 @@ module _ (n : ℕ) (to : ℕ → ℕ → Bool) (c : ℕ → ℕ → ℕ) (source
   same : (v : ℕ) → v < n → done v ≡ true → (e v ≡ d v) × (l v ≡ k v) × (after v ≡ reached v)
   same v p q = elim (way v p) [ stay b x y z t ↦ (x, y, t) | move b x y z t r o ↦ absurd (both-ways (done v) x q) ]
 
+  -- m is settled now
   settled-m : done m ≡ true
   settled-m = let j = joined m below in grind arith
 
+  -- what is settled is reached
   held-m : (v : ℕ) → v < n → done v ≡ true → reached v ≡ true
   held-m v p q = ⊎-elim (λ (s : settled v ≡ true). h .held v p s) (λ (s : v ≡ m). ap reached s ∙ found) (was v p q)
 
@@ -137,6 +156,7 @@ module _ (n : ℕ) (to : ℕ → ℕ → Bool) (c : ℕ → ℕ → ℕ) (source
       (λ (s : v ≡ m). before-refl v m d k s)
       (was v p q)
 
+  -- the sources keep their labels
   turn-start : (x : ℕ) → x < n → source x ≡ true → (after x ≡ true) × (e x ≡ 0) × (l x ≡ 1)
   turn-start x p q =
       let s = h .start x p q in
@@ -146,6 +166,7 @@ module _ (n : ℕ) (to : ℕ → ℕ → Bool) (c : ℕ → ℕ → ℕ) (source
             absurd (both-ways _ (r (s .0)) (first-before (d x) (k x) (d m + c m x) (k m) (s .1) (s .2)))
       ]
 
+  -- no arc from a settled element betters a label
   turn-step : (v u : ℕ) → v < n → u < n → done v ≡ true → to v u ≡ true →
       (after u ≡ true) × (Before (e u) (l u) (e v + c v u) (l v + 1) ≡ true)
   turn-step v u p q s t =
@@ -181,6 +202,7 @@ module _ (n : ℕ) (to : ℕ → ℕ → Bool) (c : ℕ → ℕ → ℕ) (source
             | move b o r i j z f ↦ (f, before-same _ _ (e u) (l u) i j)
           ]
 
+  -- the settled labels are no later than the others
   turn-ahead : (v u : ℕ) → v < n → u < n → done v ≡ true → after u ≡ true → done u ≡ false → Before (e v) (l v) (e u) (l u) ≡ true
   turn-ahead v u p q s r f =
       let old = same v p s in
@@ -193,6 +215,7 @@ module _ (n : ℕ) (to : ℕ → ℕ → Bool) (c : ℕ → ℕ → ℕ) (source
       ] in
       before-at (d v) (k v) (e v) (l v) _ _ (old .0) (old .1) (before-trans _ _ (d m) (k m) _ _ x y)
 
+  -- each label comes along an arc from a settled element
   turn-along : (v : ℕ) → v < n → after v ≡ true → 1 < l v →
       (ahead v < n) × (done (ahead v) ≡ true) × (to (ahead v) v ≡ true) × (e v ≡ e (ahead v) + c (ahead v) v) × (l v ≡ l (ahead v) + 1)
   turn-along v p r g =
@@ -213,6 +236,7 @@ module _ (n : ℕ) (to : ℕ → ℕ → Bool) (c : ℕ → ℕ → ℕ) (source
       moved-along x y q a b t f s =
           (omega arith, ap done q ∙ b, ap (λ (i : ℕ). to i v) q ∙ t, f ∙ sym (ap (λ (i : ℕ). e i + c i v) q), s ∙ sym (ap (λ (i : ℕ). l i + 1) q))
 
+  -- .. or from a source
   turn-begun : (v : ℕ) → v < n → after v ≡ true → l v ≤ 1 → (source v ≡ true) × (e v ≡ 0) × (1 ≤ l v)
   turn-begun v p r g =
       elim (way v p) [
@@ -243,8 +267,10 @@ settles settled done m h v = let x = h v in joins-in (eqb v m) (settled v) (done
 pub open-parts : (r s : Bool) → (r && not s) ≡ true → (r ≡ true) × (s ≡ false)
 open-parts r s h = grind arith
 
+-- reached and not settled, put together
 pub open-from : (r s : Bool) → r ≡ true → s ≡ false → (r && not s) ≡ true
 open-from r s p q = grind arith
 
+-- where none is open, the reached are settled
 pub none-open : (r s : Bool) → (r && not s) ≡ false → r ≡ true → s ≡ true
 none-open r s h p = grind arith

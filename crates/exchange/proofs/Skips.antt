@@ -18,6 +18,7 @@ use Rattle.sets.proofs.Masks.{bit, bit-and, bit-not, bit-shr}
 abbrev pub without-word : ℕ → ℕ → ℕ
 without-word x y = bitAnd x (4294967295 - y)
 
+-- its bits
 word-bit : (x y k : ℕ) → y < 2 ^ 32 → k < 32 → bit (without-word x y) k ≡ (bit x k && not (bit y k))
 word-bit x y k h l = bit-and x (4294967295 - y) k ∙ ap (λ (b : Bool). bit x k && b) (bit-not 32 y k h l)
 
@@ -32,6 +33,7 @@ outside-bit row other at j h =
     ∙ ap (λ (x : ℕ). bit (getD row (at + j / 32) 0) x && not (bit (getD other (j / 32) 0) (j % 32))) q
     ∙ sym (word-bit (getD row (at + j / 32) 0) (getD other (j / 32) 0) (j % 32) h (omega arith))
 
+-- zero has no bit
 zero-bit : (k : ℕ) → bit 0 k ≡ false
 zero-bit k = ap (λ (x : ℕ). eqb (x % 2) 1) (zero-div (2 ^ k))
 
@@ -59,6 +61,7 @@ pub rest-tells : (row other : List ℕ) (at i : ℕ) (b : Bool) → getD other (
     outside (word-row row at) (marked other) i ≡ b
 rest-tells row other at i b h e = outside-bit row other at i h ∙ e
 
+-- from i to i + 1 there is only i
 pub only-itself : (P : ℕ → Bool) (i : ℕ) → P i ≡ false → (j : ℕ) → i ≤ j → j < i + 1 → P j ≡ false
 only-itself P i h j p q = let e : j ≡ i = omega arith in ap P e ∙ h
 

@@ -7,9 +7,11 @@ use lib.Dec.{eqb}
 use Rattle.sets.specs.Matroid.{pick, Set}
 use Rattle.exchange.specs.Round.{behind, flipped, toggled}
 
+-- the predecessor is one step further back
 pub behind-more : (back : ℕ → ℕ) (t j v : ℕ) → v ≡ behind back t j → back v ≡ behind back t (j + 1)
 behind-more back t j v e = ap back e ∙ ap (behind back t) (sym (add-one j))
 
+-- one element more of the path is changed
 pub toggled-more : (s now after : Set) (back : ℕ → ℕ) (t j v : ℕ) → v ≡ behind back t j → ((x : ℕ) → now x ≡ toggled s back t j x) →
     ((x : ℕ) → after x ≡ flipped now v x) → (x : ℕ) → after x ≡ toggled s back t (j + 1) x
 toggled-more s now after back t j v e h f x =

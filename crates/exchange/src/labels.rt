@@ -44,7 +44,7 @@ fn improve(
     requires { ⌜ u < 32 * length (now reached) ⌝ ∗ ⌜ u < length (now costs) ⌝ ∗ ⌜ u < length (now steps) ⌝ ∗ ⌜ u < length (now back) ⌝ ∗ ⌜ v ≤ 600 ⌝ }
     ensures { λ _. ⌜ ((j : ℕ) → Changed (λ _. cost) step v (λ i. eqb i u && takes (marked (now (reached .entry))) (at (now (costs .entry))) (at (now (steps .entry))) u cost step) (marked (now (reached .entry))) (marked (now (reached .exit))) (at (now (costs .entry))) (at (now (steps .entry))) (at (now (back .entry))) (at (now (costs .exit))) (at (now (steps .exit))) (at (now (back .exit))) j) ⌝ }
 {
-    if !holds(reached, u) || cost < costs[u] || (cost == costs[u] && step < steps[u]) {
+    if !holds(reached, u) || sooner(cost, step, costs[u], steps[u]) {
         put(reached, u, true);
         costs[u] = cost;
         steps[u] = step;

@@ -1,6 +1,7 @@
 use mathlib.Core.Path.{ap, _∙_}
 use mathlib.Core.Bool.{not}
 use borrow.Author.Needs.{needs}
+use native.Mathlib.Omega.{arith}
 use Rattle.matroid.specs.Rules.{allows}
 use Rattle.sets.specs.Bits.{marked}
 use Rattle.exchange.specs.Graph.{at}
@@ -9,6 +10,28 @@ use Rattle.exchange.proofs.RoundLabels.{are-labels, none-ends, some-ends, ends
 use Rattle.exchange.proofs.Verdicts.{found}
 use Rattle.matroid.proofs.RuleLaws.{rules-matroid}
 use Rattle.exchange.proofs.paths.find_path.Needs as need
+
+pub tables-asked-requires : need.tables-asked-requires
+tables-asked-requires c κs =
+    let z = c .pre .sizes in
+    let r = c .pre .rows in
+    let st = c .pre .state in
+    record {
+      sizes = (z .0, (z .1 .0, (z .1 .1 .0, (r .0, r .1 .0))));
+      states = c .pre .states;
+      well = c .pre .well;
+      allowed = (st .1 .first, st .1 .second);
+    }
+
+pub best-end-end-requires : need.best-end-end-requires
+best-end-end-requires c κs =
+    let z = c .pre .sizes in
+    record {
+      rows = (z .0, (omega (arith, c .tables-asked .kept .sinks, c .pre .rows .1 .0), omega (arith, c .label .kept .reached, c .pre .rows .1 .1 .1 .0)));
+      numbers = (z .1 .1 .1 .0, (z .1 .1 .1 .1, (omega (arith, c .label .kept .costs, c .pre .numbers .0), omega (arith, c .label .kept .steps, c .pre .numbers .1 .0))));
+      light = c .pre .light;
+      small = c .label .ensures .small;
+    }
 
 pub label-requires : need.label-requires
 label-requires c κs =
