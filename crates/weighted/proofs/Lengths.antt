@@ -16,8 +16,8 @@ use Rattle.sets.specs.declared.refusal.Refusal.the-variants.{Short}
 use Rattle.sets.specs.declared.refusal.Lent.the-variants.{Sets, Numbers, Work}
 use Rattle.sets.specs.Matroid.{size}
 use Rattle.sets.proofs.FiniteSets.{size-bound}
-use Rattle.matroid.specs.declared.Rule.{Rule}
-use Rattle.matroid.specs.declared.Rule.the-variants.{Limits, Volunteers, Links, Rows}
+use Rattle.matroid.specs.declared.rule.Rule.{Rule}
+use Rattle.matroid.specs.declared.rule.Rule.the-variants.{Limits, Volunteers, Links, Rows}
 use Rattle.matroid.specs.declared.problem.Problem.{Problem}
 use Rattle.matroid.specs.Problem.{Stands, weight-of}
 use Rattle.matroid.specs.Reading.{and-then, read}
@@ -26,8 +26,7 @@ use Rattle.weighted.specs.Choice.{sets-length, numbers-length, work-length, al
 use Rattle.weighted.proofs.Chosen.{few-calls}
 
 -- what is kept for up to 600 offers
-pub kept-small : (n : ℕ) → n ≤ 600 → kept-length n ≤ 40000
-unfolding kept-length
+pub kept-small : (n : ℕ) → n ≤ 600 → kept-length n ≤ 63000
 kept-small n h =
     let a : n + 601 ≤ 1201 = omega arith in
     let b : row-words n ≤ 19 = omega arith in
@@ -70,7 +69,7 @@ admits file sets numbers work problem e a b c =
     ∙ ap (λ (v : Bool). cond v (Err (Short Work)) (Ok problem)) (le-ltb work (work-length (problem .n)) c)
 
 -- the whole of the lent words is a small number
-pub work-small : (n kept : ℕ) → n ≤ 600 → kept ≤ 40000 → 5 * n + (n + 6) * row-words n + 2 * kept ≤ 200000
+pub work-small : (n kept : ℕ) → n ≤ 600 → kept ≤ 63000 → 5 * n + (n + 6) * row-words n + 2 * kept ≤ 260000
 work-small n kept h k =
     let a : n + 6 ≤ 606 = omega arith in
     let b : row-words n ≤ 19 = omega arith in

@@ -50,3 +50,10 @@ added-by n f g w a a′ loss risen s t reached d k back end mf mg light h labels
 -- what the end of a round says where there is a path
 pub some-end : (o : Option ℕ) (t : ℕ) (P : Type 0) (Q : ℕ → Type 0) → o ≡ Some t → Cases o P Q → Q t
 some-end o t P Q e h = subst (λ (v : Option ℕ). Cases v P Q) e h
+
+-- what a path has cost and the potential at its end are small
+pub end-small : (d a w k n : ℕ) → d + a ≤ w + k * top → k ≤ n + 1 → n ≤ 600 → w ≤ top → d + a ≤ 602 * top
+end-small d a w k n h l few light =
+    let b : k ≤ 601 = omega arith in
+    let c : k * top ≤ 601 * top = mul-le-mul-right top b in
+    omega arith

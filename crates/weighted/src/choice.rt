@@ -16,7 +16,7 @@ use crate::parts::load_weights;
 use crate::turn::Answer;
 use crate::turn::all_rounds;
 use matroid::Rule;
-use matroid::kept_words;
+use matroid::kept_length;
 use matroid::problem::read;
 use sets::refusal::Lent;
 use sets::refusal::Refusal;
@@ -57,7 +57,7 @@ fn choose_in_rows(
     let (reached, rows) = rows.split_at_mut(words);
     let (dual, rows) = rows.split_at_mut(words);
     let (arcs, rows) = rows.split_at_mut(words * n);
-    let (first_state, second_state) = rows.split_at_mut(kept_words(n));
+    let (first_state, second_state) = rows.split_at_mut(kept_length(n));
     clear_row(set, 0, words);
     all_rounds(
         file,
@@ -147,7 +147,7 @@ pub fn choose(
     if numbers.len() < 2 * (n * n) {
         return Err(Refusal::Short(Lent::Numbers));
     }
-    if work.len() < 5 * n + (n + 6) * words + 2 * kept_words(n) {
+    if work.len() < 5 * n + (n + 6) * words + 2 * kept_length(n) {
         return Err(Refusal::Short(Lent::Work));
     }
     Ok(choose_in(file, n, problem.first, problem.second, sets, numbers, work))

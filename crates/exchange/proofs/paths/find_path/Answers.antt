@@ -8,7 +8,7 @@ use Rattle.exchange.specs.Graph.{at}
 use Rattle.exchange.proofs.Rounds.{priced, sources-free}
 use Rattle.exchange.proofs.RoundLabels.{are-labels, none-ends, some-ends, ends-within}
 use Rattle.exchange.proofs.Verdicts.{found}
-use Rattle.matroid.proofs.RuleLaws.{rules-matroid}
+use Rattle.matroid.proofs.RuleLaws.{rule-matroid}
 use Rattle.exchange.proofs.paths.find_path.Needs as need
 
 pub tables-asked-requires : need.tables-asked-requires
@@ -81,8 +81,8 @@ returns-then-is-none c =
       small = c .label .ensures .small;
       ends = es;
       within = ends-within n f g s arcs sources sinks holds w a reached d k back (c .label .ensures .shortest) (c .best-end-end .result) (c .best-end-end .ensures);
-      best = found n f g w a (st .0) s reached d k back (marked (c .dual-set .last .dual)) (c .best-end-end .result) (rules-matroid (c .args .file .now) n (c .args .first) (c .pre .well .0))
-          (rules-matroid (c .args .file .now) n (c .args .second) (c .pre .well .1)) (c .pre .light) (st .1) ls es;
+      best = found n f g w a (st .0) s reached d k back (marked (c .dual-set .last .dual)) (c .best-end-end .result) (rule-matroid (c .args .file .now) n (c .args .first) (c .pre .well .0))
+          (rule-matroid (c .args .file .now) n (c .args .second) (c .pre .well .1)) (c .pre .light) (st .1) ls es;
       kept = c .tables-asked .ensures .kept;
     }
 
@@ -116,7 +116,7 @@ returns-else-is-none c =
       small = c .label .ensures .small;
       ends = es;
       within = ends-within n f g s arcs sources sinks holds w a reached d k back (c .label .ensures .shortest) (c .best-end-end .result) (c .best-end-end .ensures);
-      best = found n f g w a (st .0) s reached d k back (marked (c .args .dual .now)) (c .best-end-end .result) (rules-matroid (c .args .file .now) n (c .args .first) (c .pre .well .0))
-          (rules-matroid (c .args .file .now) n (c .args .second) (c .pre .well .1)) (c .pre .light) (st .1) ls es;
+      best = found n f g w a (st .0) s reached d k back (marked (c .args .dual .now)) (c .best-end-end .result) (rule-matroid (c .args .file .now) n (c .args .first) (c .pre .well .0))
+          (rule-matroid (c .args .file .now) n (c .args .second) (c .pre .well .1)) (c .pre .light) (st .1) ls es;
       kept = c .tables-asked .ensures .kept;
     }

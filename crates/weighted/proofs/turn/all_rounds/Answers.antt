@@ -12,7 +12,7 @@ use Rattle.sets.proofs.FiniteSets.{size-bound}
 use Rattle.exchange.specs.Graph.{at}
 use Rattle.exchange.specs.Round.{top}
 use Rattle.matroid.specs.Rules.{allows}
-use Rattle.matroid.proofs.RuleLaws.{rules-matroid}
+use Rattle.matroid.proofs.RuleLaws.{rule-matroid}
 use Rattle.weighted.specs.Choice.{round-calls, all-calls}
 use Rattle.weighted.proofs.Progress.{Progress, progress-more}
 use Rattle.weighted.proofs.Rounding.{asked-is, calls-few, calls-fit, calls-next, numbers-rest, sets-rest, one-more, set-room, number-room, progress-none, no-end, finished, all-rest, step-up}
@@ -27,7 +27,7 @@ pub loop-set-holds : need.loop-set-holds
 loop-set-holds c =
     let n = c .args .n in
     let file = c .args .file .now in (
-      progress-none (rules-matroid file n (c .args .first) (c .pre .well .0)) (rules-matroid file n (c .args .second) (c .pre .well .1))
+      progress-none (rule-matroid file n (c .args .first) (c .pre .well .0)) (rule-matroid file n (c .args .second) (c .pre .well .1))
           (at (c .args .weights .now)) (at (c .args .potentials .now)) (marked (c .args .set .now)) (c .args .sets .now) (c .args .numbers .now)
           (c .pre .none .0) (c .pre .none .1) (c .pre .light),
       zero-add (round-calls n 0),
@@ -56,7 +56,7 @@ returns-in-None c =
     let end = no-end (c .advance-step .result .loss) _ _ (c .in-None .is) (c .advance-step .ensures .ends) in
     record {
       chosen =
-          finished (rules-matroid file n (c .args .first) (c .pre .well .0)) (rules-matroid file n (c .args .second) (c .pre .well .1))
+          finished (rule-matroid file n (c .args .first) (c .pre .well .0)) (rule-matroid file n (c .args .second) (c .pre .well .1))
           (at (c .args .weights .now)) (at (c .loop-set .potentials)) (c .loop-set .loss) s (marked (c .advance-step .last .dual))
           (c .loop-set .sets) (c .write-largest .last .sets) (c .loop-set .numbers) k p (end .1)
           (λ x l. c .write-largest .ensures .largest x l ∙ ap (λ (v : List ℕ). marked v x) (end .0)) (c .write-largest .ensures .duals)
@@ -118,7 +118,7 @@ loop-set-again c =
     let e = asked-is n k (c .advance-step .result .asked) s (p .counted) (c .advance-step .ensures .asked) in
     let more = some-end (c .advance-step .result .loss) risen _ _ (c .in-Some .is) (c .advance-step .ensures .ends) in (
       step-up (λ (z : ℕ). Progress n f g w a risen t (c .write-size .last .sets) (c .write-size .last .numbers) z) k
-          (progress-more (rules-matroid file n (c .args .first) (c .pre .well .0)) (rules-matroid file n (c .args .second) (c .pre .well .1)) w
+          (progress-more (rule-matroid file n (c .args .first) (c .pre .well .0)) (rule-matroid file n (c .args .second) (c .pre .well .1)) w
           (at (c .loop-set .potentials)) a (c .loop-set .loss) risen s t (c .loop-set .sets) (c .write-size .last .sets) (c .loop-set .numbers)
           (c .write-size .last .numbers) k p (more .state) (more .sized ∙ ap suc (p .counted))
           (subst (λ (z : ℕ). risen ≤ suc z * top) (p .counted) (more .low)) (c .write-size .ensures .others) (c .write-size .ensures .members)
