@@ -1,18 +1,16 @@
 -- The weights gained from size to size never rise.
-use mathlib.Core.Path.{_≡_, refl, sym, _∙_, ap}
+use mathlib.Core.Path.{_≡_, ap}
 use mathlib.Core.Logic.{⊎-elim}
-use mathlib.Core.Bool.{Bool, true, false, _&&_}
-use Prim.Native.Nat.{ℕ, suc, _+_, _*_, _≤_, _<_}
+use Prim.Native.Nat.{ℕ, suc, _+_, _-_, _*_, _≤_, _<_}
 use native.Mathlib.Omega.{arith}
-use lib.Dec.{ltb}
+use borrow.Author.Differences.{up, down}
 use Rattle.std.proofs.shelf.Tests.{cases-lt}
-use Rattle.sets.specs.Matroid.{Set, size, weight, Matroid}
+use Rattle.sets.specs.Matroid.{size, weight}
 use Rattle.sets.proofs.FiniteSets.{size-within}
 use Rattle.sets.proofs.Weights.{above, layer-cake-two}
-use Rattle.matroid.specs.Optimal.{Best, Split}
-use Rattle.matroid.specs.Gains.{Gains-by-one, Gains-never-rise}
+use Rattle.matroid.specs.Gains.{Gains-by-one, Gains-never-rise, Gains-never-rise-signed}
 use Rattle.matroid.proofs.OneMatroid.{above-no-fewer}
-use Rattle.matroid.proofs.Optimality.{split-sum}
+use Rattle.matroid.proofs.Optimality.{split-sum, signed-is-split}
 
 -- one matroid, layer by layer: where not all of s is above c, neither t nor r has more above c than s; else their sizes tell
 pub gains-by-one : Gains-by-one
@@ -35,3 +33,9 @@ gains-never-rise n f g w a b r s t m k d fr gr ft gt more less =
     let i : d .lift * size n t ≡ d .lift * suc (size n s) = ap (λ c. d .lift * c) more in
     let j : d .lift * size n s ≡ d .lift * suc (size n r) = ap (λ c. d .lift * c) less in
     omega (arith, split-sum n w a b (d .lift) r (d .parts), split-sum n w a b (d .lift) s (d .parts), split-sum n w a b (d .lift) t (d .parts))
+
+-- numbers of either sign are a splitting over a lift
+pub gains-never-rise-signed : Gains-never-rise-signed
+gains-never-rise-signed n f g w p q r s t m k d =
+    let l = signed-is-split n f g w p q s d in
+    gains-never-rise n f g w (λ x. up (p x) + (l .0 - down (p x))) (λ x. up (q x) + (l .0 - down (q x))) r s t m k (l .1)

@@ -2,4 +2,6 @@ pub mod Gains
 pub mod ManyExchanges
 pub mod OneMatroid
 pub mod Optimality
+pub mod SmallExchanges
+pub mod SmallMatroids
 pub mod TightExchanges

@@ -1,14 +1,14 @@
 -- Many exchanges at once: the pairs that are still to be exchanged are a set of indices; one of the least keys is taken first.
 use mathlib.Core.Path.{_≡_, refl, sym, _∙_, subst, ap}
-use mathlib.Core.Logic.{_⊎_, inl, inr, ⊎-elim}
+use mathlib.Core.Logic.{_⊎_, ⊎-elim}
 use mathlib.Core.Bool.{Bool, true, false, _&&_, _||_, not}
-use Prim.Native.Nat.{ℕ, zero, suc, _+_, _-_, _≤_, _<_}
+use Prim.Native.Nat.{ℕ, zero, suc, _+_, _≤_, _<_}
 use native.Mathlib.Omega.{arith}
-use lib.Dec.{eqb, ltb}
+use lib.Dec.{eqb}
 use Rattle.std.proofs.shelf.Tests.{cases-bool, cases-lt, cases-eq, both-ways}
-use Rattle.sets.specs.Matroid.{pick, Set, size, weight, both, outside, without, with, none, Within, Matroid}
-use Rattle.sets.proofs.FiniteSets.{size-same, size-with, size-without, size-exchange, look-up, least}
-use Rattle.sets.proofs.Weights.{weight-same, weight-with, weight-exchange}
+use Rattle.sets.specs.Matroid.{Set, size, weight, without, with, none, Matroid}
+use Rattle.sets.proofs.FiniteSets.{size-same, size-without, size-exchange, look-up, least}
+use Rattle.sets.proofs.Weights.{weight-same, weight-exchange}
 use Rattle.sets.proofs.MatroidLaws.{allowed-within, refused-within, allowed-same}
 use Rattle.matroid.specs.Exchanges.{among}
 use Rattle.matroid.proofs.OneMatroid.{refused-is-new, makes-way-is-held, carry}

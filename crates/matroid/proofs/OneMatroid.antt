@@ -1,15 +1,15 @@
 -- One matroid: filling up, exchanging one element, sets that are best by exchanges.
-use mathlib.Core.Path.{_≡_, refl, sym, _∙_, subst}
-use mathlib.Core.Logic.{_⊎_, inl, inr, ⊎-elim}
-use mathlib.Core.Bool.{Bool, true, false, _&&_, _||_, not}
+use mathlib.Core.Path.{_≡_, sym, _∙_, subst}
+use mathlib.Core.Logic.{⊎-elim}
+use mathlib.Core.Bool.{Bool, true, false, _&&_, _||_}
 use Prim.Native.Nat.{ℕ, zero, suc, _+_, _-_, _≤_, _<_}
 use native.Mathlib.Omega.{arith}
-use lib.Dec.{eqb, ltb}
+use lib.Dec.{ltb}
 use Rattle.std.proofs.shelf.Tests.{cases-bool, cases-lt, cases-eq, both-ways}
-use Rattle.sets.specs.Matroid.{pick, Set, size, weight, both, outside, without, with, none, Within, Matroid}
-use Rattle.sets.proofs.FiniteSets.{size-within, size-without, size-with, size-with-beyond, size-exchange, larger-has-more, part-as-large, look-up}
+use Rattle.sets.specs.Matroid.{Set, size, weight, without, with, Within, Matroid}
+use Rattle.sets.proofs.FiniteSets.{size-within, size-without, size-with, size-exchange, larger-has-more, part-as-large}
 use Rattle.sets.proofs.Weights.{above, layer-cake, weight-exchange}
-use Rattle.sets.proofs.MatroidLaws.{allowed-within, refused-within, allowed-same, augment}
+use Rattle.sets.proofs.MatroidLaws.{allowed-within, augment}
 use Rattle.matroid.specs.Optimal.{Best, Heaviest-by-one}
 use Rattle.matroid.specs.Exchanges.{Extension, Exchange, As-good-as-best, Best-of-one-more, Carry}
 

@@ -1,19 +1,19 @@
 -- Two matroids: a dual set shows a largest set, a weight splitting shows a heaviest set of its size.
 use mathlib.Core.Path.{_≡_, refl, sym, _∙_, ap}
 use mathlib.Core.Logic.{⊎-elim}
-use mathlib.Core.Bool.{Bool, true, false, _&&_, _||_, not}
-use Prim.Native.Nat.{ℕ, zero, suc, _+_, _-_, _*_, _≤_, _<_, max}
+use mathlib.Core.Bool.{Bool, true, false, _&&_, not}
+use Prim.Native.Nat.{ℕ, _+_, _-_, _*_, _≤_, _<_, max}
 use native.Mathlib.Omega.{arith}
 use lib.IntN.{ℤ, pos, _+ℤ_}
 use lib.Signed.{_≤ℤ_}
 use borrow.Author.Differences.{up, down}
 use Rattle.std.proofs.shelf.Signed.{ints}
 use Rattle.std.proofs.shelf.Tests.{cases-lt, both-ways}
-use Rattle.sets.specs.Matroid.{Set, size, weight, both, outside, without, with, Within, Matroid}
+use Rattle.sets.specs.Matroid.{Set, size, weight, both, outside, without, with, Matroid}
 use Rattle.sets.proofs.FiniteSets.{size-parts}
 use Rattle.sets.proofs.Weights.{weight-same, weight-sum, weight-constant, highest}
 use Rattle.sets.proofs.MatroidLaws.{allowed-within, augment}
-use Rattle.matroid.specs.Optimal.{Dual, Largest, Best, Split, Heaviest, Signed-split, Heaviest-signed, Signed-best, Exchanges-suffice}
+use Rattle.matroid.specs.Optimal.{Largest, Split, Heaviest, Signed-split, Heaviest-signed, Exchanges-suffice}
 use Rattle.matroid.proofs.OneMatroid.{heaviest-by-one}
 
 -- a part of an allowed set to which no element of a test can be added is no smaller than another set's part by that test

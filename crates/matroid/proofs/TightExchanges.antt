@@ -1,19 +1,17 @@
 -- Many exchanges, by index and by keys, and tight exchanges; each also after an element is added.
 use mathlib.Core.Path.{_≡_, refl, sym, _∙_}
-use mathlib.Core.Logic.{_⊎_, inl, inr, ⊎-elim}
-use mathlib.Core.Bool.{Bool, true, false, _&&_, _||_, not}
-use Prim.Native.Nat.{ℕ, zero, suc, _+_, _≤_, _<_}
+use mathlib.Core.Logic.{inl, inr, ⊎-elim}
+use mathlib.Core.Bool.{Bool, true, false}
+use Prim.Native.Nat.{ℕ, suc, _≤_, _<_}
 use native.Mathlib.Omega.{arith}
-use lib.Dec.{eqb, ltb}
-use Rattle.std.proofs.shelf.Tests.{cases-bool, cases-lt, both-ways}
-use Rattle.sets.specs.Matroid.{Set, size, weight, without, with, Within, Matroid}
+use Rattle.std.proofs.shelf.Tests.{cases-lt, both-ways}
+use Rattle.sets.specs.Matroid.{Set, size, without, with, Matroid}
 use Rattle.sets.proofs.FiniteSets.{size-same, size-with, size-bound}
 use Rattle.sets.proofs.Weights.{weight-same, weight-with}
 use Rattle.sets.proofs.MatroidLaws.{allowed-within, refused-within, allowed-same}
-use Rattle.matroid.specs.Optimal.{Best}
-use Rattle.matroid.specs.Exchanges.{among, exchanged, Pairs, Falling, Many-exchanges, Many-exchanges-and-one, Many-exchanges-by-keys, Many-exchanges-by-keys-and-one, Tight, Made, Tight-exchanges, Tight-exchanges-and-one}
+use Rattle.matroid.specs.Exchanges.{exchanged, Pairs, Falling, Many-exchanges, Many-exchanges-and-one, Many-exchanges-by-keys, Many-exchanges-by-keys-and-one, Tight, Tight-exchanges, Tight-exchanges-and-one}
 use Rattle.matroid.proofs.OneMatroid.{refused-is-new, makes-way-is-held, carry, as-good-as-best, best-of-one-more}
-use Rattle.matroid.proofs.ManyExchanges.{hit, swapped, hit-all, Open, Like, all-done}
+use Rattle.matroid.proofs.ManyExchanges.{swapped, hit-all, Like, all-done}
 
 -- all pairs exchanged by keys, where each pair's two elements have equal numbers: the numbers' sum stays too
 exchanged-by-keys : (n : ℕ) (f : Set → Bool) (a : ℕ → ℕ) (s : Set) (y x : ℕ → ℕ) (m : ℕ) (key place : ℕ → ℕ) → Matroid n f →

@@ -5,7 +5,7 @@ use mathlib.Core.Logic.{_⊎_}
 use mathlib.Core.Bool.{Bool, true, false, _&&_, _||_, not}
 use Prim.Native.Nat.{ℕ, zero, suc, _+_, _≤_, _<_}
 use lib.Dec.{eqb}
-use Rattle.sets.specs.Matroid.{Set, size, weight, both, outside, without, with, Within, Matroid}
+use Rattle.sets.specs.Matroid.{Set, size, weight, without, with, Within, Matroid}
 use Rattle.matroid.specs.Optimal.{Best}
 
 -- an allowed set can be filled up from another that is no smaller, to the size of that one

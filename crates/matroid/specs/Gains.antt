@@ -3,8 +3,9 @@
 use mathlib.Core.Path.{_≡_}
 use mathlib.Core.Bool.{Bool, true}
 use Prim.Native.Nat.{ℕ, suc, _+_, _≤_}
+use lib.IntN.{ℤ}
 use Rattle.sets.specs.Matroid.{Set, size, weight, Matroid}
-use Rattle.matroid.specs.Optimal.{Best, Split}
+use Rattle.matroid.specs.Optimal.{Best, Split, Signed-split}
 
 -- one matroid: a best set s, a set t of one more and a set r of one less: from s to t is gained no more than from r to s
 abbrev pub Gains-by-one : Type 0
@@ -17,5 +18,12 @@ Gains-by-one =
 abbrev pub Gains-never-rise : Type 0
 Gains-never-rise =
     (n : ℕ) (f g : Set → Bool) (w a b : ℕ → ℕ) (r s t : Set) → Matroid n f → Matroid n g → Split n f g w a b s →
+    f r ≡ true → g r ≡ true → f t ≡ true → g t ≡ true → size n t ≡ suc (size n s) → size n s ≡ suc (size n r) →
+    weight n w t + weight n w r ≤ weight n w s + weight n w s
+
+-- the same for numbers of either sign that add up to the weights
+abbrev pub Gains-never-rise-signed : Type 0
+Gains-never-rise-signed =
+    (n : ℕ) (f g : Set → Bool) (w : ℕ → ℕ) (p q : ℕ → ℤ) (r s t : Set) → Matroid n f → Matroid n g → Signed-split n f g w p q s →
     f r ≡ true → g r ≡ true → f t ≡ true → g t ≡ true → size n t ≡ suc (size n s) → size n s ≡ suc (size n r) →
     weight n w t + weight n w r ≤ weight n w s + weight n w s

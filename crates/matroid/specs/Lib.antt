@@ -1,3 +1,4 @@
+pub mod Examples
 pub mod Exchanges
 pub mod Gains
 pub mod Optimal

@@ -7,6 +7,7 @@ ghost use lib.ListN.{length};
 ghost use mathlib.Core.Bool.{true, false};
 ghost use mathlib.Core.Path.{_≡_};
 
+pub mod examples;
 pub mod theory;
 
 // A rule of one of the four kinds, with its counts and the place of its data in the file.

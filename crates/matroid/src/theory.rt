@@ -1,6 +1,6 @@
 // What is proved of every matroid, and of every two matroids over the same elements. Each function's contract names its theorem.
 ghost use Rattle.matroid.specs.Exchanges.{Extension, Exchange, As-good-as-best, Best-of-one-more, Carry, Many-exchanges, Many-exchanges-and-one, Many-exchanges-by-keys, Many-exchanges-by-keys-and-one, Tight-exchanges, Tight-exchanges-and-one};
-ghost use Rattle.matroid.specs.Gains.{Gains-by-one, Gains-never-rise};
+ghost use Rattle.matroid.specs.Gains.{Gains-by-one, Gains-never-rise, Gains-never-rise-signed};
 ghost use Rattle.matroid.specs.Optimal.{Heaviest-by-one, Largest, Heaviest, Heaviest-signed, Exchanges-suffice};
 
 // An allowed set can be filled up from another that is no smaller.
@@ -125,6 +125,13 @@ pub fn gains_by_one_never_rise() -> u8
 // Two matroids: from size to size no more is gained than before.
 pub fn gains_never_rise() -> u8
     ensures { λ _. ⌜ Gains-never-rise ⌝ }
+{
+    0
+}
+
+// The same for numbers of either sign that add up to the weights.
+pub fn signed_gains_never_rise() -> u8
+    ensures { λ _. ⌜ Gains-never-rise-signed ⌝ }
 {
     0
 }

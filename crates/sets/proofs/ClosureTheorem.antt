@@ -1,14 +1,14 @@
 -- The closure theorem: the sets in which no element depends on the others are a matroid.
-use mathlib.Core.Path.{_≡_, refl, sym, _∙_, subst}
-use mathlib.Core.Logic.{_⊎_, inl, inr, ⊎-elim}
-use mathlib.Core.Bool.{Bool, true, false, _&&_, _||_, not}
-use Prim.Native.Nat.{ℕ, zero, suc, _+_, _≤_, _<_}
+use mathlib.Core.Path.{_≡_, refl, sym, subst}
+use mathlib.Core.Logic.{⊎-elim}
+use mathlib.Core.Bool.{Bool, true, false, _&&_, not}
+use Prim.Native.Nat.{ℕ, zero, suc, _≤_, _<_}
 use native.Mathlib.Omega.{arith}
-use lib.Dec.{eqb, ltb}
+use lib.Dec.{eqb}
 use Rattle.std.proofs.shelf.Tests.{cases-bool, cases-lt, cases-eq, both-ways}
-use Rattle.sets.specs.Matroid.{pick, Set, size, both, outside, without, with, none, Within, Matroid}
+use Rattle.sets.specs.Matroid.{Set, size, outside, without, with, none, Within}
 use Rattle.sets.specs.Closure.{Closure, free, Closure-matroid}
-use Rattle.sets.proofs.FiniteSets.{size-within, size-without, size-with, size-exchange, look-up}
+use Rattle.sets.proofs.FiniteSets.{size-within, size-without, size-exchange, look-up}
 use Rattle.sets.proofs.MatroidLaws.{matroid}
 
 -- in a free set no element depends on the others

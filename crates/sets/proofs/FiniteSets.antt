@@ -1,12 +1,12 @@
 -- Lemmas on finite sets: sizes, parts, what a larger set has that a smaller one lacks, and how to look an element up.
-use mathlib.Core.Path.{_≡_, refl, sym, _∙_, ap}
+use mathlib.Core.Path.{_≡_, refl, _∙_, ap}
 use mathlib.Core.Logic.{_⊎_, inl, inr, ⊎-elim}
 use mathlib.Core.Bool.{Bool, true, false, _&&_, _||_, not}
-use Prim.Native.Nat.{ℕ, zero, suc, _+_, _*_, _≤_, _<_}
+use Prim.Native.Nat.{ℕ, zero, suc, _+_, _≤_, _<_}
 use native.Mathlib.Omega.{arith}
-use lib.Dec.{eqb, ltb, leb}
+use lib.Dec.{ltb}
 use Rattle.std.proofs.shelf.Tests.{cases-bool, cases-lt}
-use Rattle.sets.specs.Matroid.{pick, Set, size, both, outside, without, with, none, Within}
+use Rattle.sets.specs.Matroid.{Set, size, both, outside, without, with, none, Within}
 
 -- a set that lies in another is no larger
 pub size-within : (n : ℕ) (s t : Set) → Within n s t → size n s ≤ size n t

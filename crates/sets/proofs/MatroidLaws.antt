@@ -1,11 +1,11 @@
 -- The laws of a matroid as lemmas. They are shut in the record, so that they enter a proof only where they are named.
-use mathlib.Core.Path.{_≡_, refl, sym, _∙_}
+use mathlib.Core.Path.{_≡_, sym, _∙_}
 use mathlib.Core.Logic.{⊎-elim}
-use mathlib.Core.Bool.{Bool, true, false, _&&_, _||_, not}
+use mathlib.Core.Bool.{Bool, true, false}
 use Prim.Native.Nat.{ℕ, _<_}
 use native.Mathlib.Omega.{arith}
 use Rattle.std.proofs.shelf.Tests.{cases-bool}
-use Rattle.sets.specs.Matroid.{Set, size, without, with, none, Within, Hereditary, Augmentable, Matroid}
+use Rattle.sets.specs.Matroid.{Set, size, with, none, Within, Hereditary, Augmentable, Matroid}
 
 -- what lies in an allowed set is allowed
 pub allowed-within : {n : ℕ} {f : Set → Bool} → Matroid n f → (s t : Set) → Within n s t → f t ≡ true → f s ≡ true

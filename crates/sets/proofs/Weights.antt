@@ -1,12 +1,12 @@
 -- Lemmas on what finite sets weigh, and the layer cake: a weight is the sum over c of the number of elements above c.
 use mathlib.Core.Path.{_≡_, refl}
 use mathlib.Core.Logic.{⊎-elim}
-use mathlib.Core.Bool.{Bool, true, false, _&&_, _||_, not}
+use mathlib.Core.Bool.{Bool, true, false, _&&_}
 use Prim.Native.Nat.{ℕ, zero, suc, _+_, _*_, _≤_, _<_, min, max}
 use native.Mathlib.Omega.{arith}
-use lib.Dec.{eqb, ltb}
+use lib.Dec.{ltb}
 use Rattle.std.proofs.shelf.Tests.{cases-lt}
-use Rattle.sets.specs.Matroid.{pick, Set, size, weight, both, outside, without, with, none, Within}
+use Rattle.sets.specs.Matroid.{pick, Set, size, weight, both, outside, without, with, none}
 
 -- sets that agree below n, under numbers that agree there, weigh the same
 pub weight-same : (n : ℕ) (a b : ℕ → ℕ) (s t : Set) → ((x : ℕ) → x < n → a x ≡ b x) → ((x : ℕ) → x < n → s x ≡ t x) →
