@@ -2,7 +2,7 @@
 use mathlib.Core.Bool.{Bool, true}
 use mathlib.Core.List.{List}
 use Prim.Native.Nat.{ℕ}
-use Rattle.matroid.specs.declared.Rule.{Rule}
+use Rattle.matroid.specs.declared.rule.Rule.{Rule}
 use Rattle.sets.specs.Matroid.{Set}
 
 -- the rule allows the set

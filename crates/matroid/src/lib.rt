@@ -1,5 +1,5 @@
 // A stand-in for the crate of the four kinds: one enum, three functions.
-ghost use Prim.Native.Nat.{ℕ, _<_, _≤_};
+ghost use Prim.Native.Nat.{ℕ, _^_, _<_, _≤_};
 ghost use Rattle.matroid.specs.Rules.{allows, Well, Ready, kept-length};
 ghost use Rattle.sets.specs.Bits.{marked, row-words};
 ghost use Rattle.sets.specs.Matroid.{with, without};
@@ -8,28 +8,19 @@ ghost use mathlib.Core.Bool.{true, false};
 ghost use mathlib.Core.Path.{_≡_};
 
 pub mod examples;
+pub mod problem;
+pub mod rule;
 pub mod theory;
 
-// A rule of one of the four kinds, with its counts and the place of its data in the file.
-#[derive(Clone, Copy)]
-pub enum Rule {
-    Limits {
-        groups: usize,
-        at: usize,
-    },
-    Volunteers {
-        volunteers: usize,
-        at: usize,
-    },
-    Links {
-        towns: usize,
-        at: usize,
-    },
-    Rows {
-        prime: u32,
-        length: usize,
-        at: usize,
-    },
+use rule::Rule;
+
+// How many words of memory a kept state takes.
+pub fn kept_length(n: usize) -> usize
+    requires { ⌜ n ≤ 600 ⌝ }
+    ensures exact { λ r. ⌜ r ≡ kept-length n ⌝ }
+    ensures small { λ r. ⌜ r < 2 ^ 32 ⌝ }
+{
+    0
 }
 
 // Is the set allowed? Where it is, the state then holds what the other two functions keep of this set.

@@ -1,0 +1,28 @@
+-- Where the rows of a certificate stand, one behind the other.
+use mathlib.Core.Path.{_≡_, refl, ap}
+use Prim.Native.Nat.{ℕ, suc, _+_, _-_, _*_, _/_, _^_, _≤_, _<_}
+use native.Mathlib.Nat.{mul-le-mul, mul-le-mul-right, add-mul}
+use native.Mathlib.Omega.{arith}
+use Rattle.sets.specs.Bits.{row-bytes}
+use Rattle.certificate.specs.Layout.{row-at}
+
+-- a certificate is not long
+pub row-at-small : (n i : ℕ) → n ≤ 600 → i ≤ 602 → row-at n i ≤ 6000000
+row-at-small n i h l =
+    let a : i * row-bytes n ≤ 602 * 75 = mul-le-mul l (let b : row-bytes n ≤ 75 = omega arith in b) in
+    let p : i - 2 ≤ 600 = omega arith in
+    let q : 16 * n ≤ 9600 = omega arith in
+    let b : (i - 2) * (16 * n) ≤ 600 * 9600 = mul-le-mul p q in
+    omega arith
+
+-- a later row begins behind an earlier one
+pub row-apart : (n i j : ℕ) → i < j → row-at n i + row-bytes n ≤ row-at n j
+row-apart n i j h =
+    let a : (i + 1) * row-bytes n ≤ j * row-bytes n = mul-le-mul-right (row-bytes n) (let l : i + 1 ≤ j = omega arith in l) in
+    let b : (i - 2) * (16 * n) ≤ (j - 2) * (16 * n) = mul-le-mul-right (16 * n) (let l : i - 2 ≤ j - 2 = omega arith in l) in
+    let e : (i + 1) * row-bytes n ≡ i * row-bytes n + 1 * row-bytes n = add-mul i 1 (row-bytes n) in
+    omega arith
+
+-- a bit from n on is in the last byte of its row
+pub last-byte : (n j : ℕ) → 1 ≤ n → n ≤ j → j < 8 * row-bytes n → j / 8 + 1 ≡ row-bytes n
+last-byte n j o h l = omega arith

@@ -1,0 +1,92 @@
+-- All that can be wrong with a certificate, and which fault is the first. Assumes nothing: these are definitions. n is the
+-- number of offers, f and g are the tests of the two rules, w the weights.
+use mathlib.Core.Path.{_≡_}
+use mathlib.Core.Bool.{Bool, true, false}
+use mathlib.Core.List.{List}
+use mathlib.Core.Logic.{_⊎_}
+use Prim.Native.Nat.{ℕ, _+_, _*_, _/_, _≤_, _<_}
+use lib.IntN.{ℤ, pos, _+ℤ_}
+use lib.ListN.{length}
+use lib.Signed.{_<ℤ_}
+use Rattle.sets.specs.Bits.{row, row-bytes}
+use Rattle.sets.specs.Matroid.{Set, size, both, outside, with, without}
+use Rattle.sets.specs.declared.refusal.Refusal.{Refusal}
+use Rattle.sets.specs.declared.refusal.Refusal.the-variants.{Length, Range, Short, Refused, Dual, Split}
+use Rattle.sets.specs.declared.refusal.Source.the-variants.{Certificate}
+use Rattle.sets.specs.declared.refusal.Lent.the-variants.{Work}
+use Rattle.certificate.specs.Layout.{row-at, largest-set, dual-set, sized-set, count, needed, first-part, second-part, Clean}
+use Rattle.certificate.specs.Validity.{work-length}
+
+-- the row at a byte is not whole, or a bit from n on is set in it
+pub data Row-fault (n : ℕ) (sheet : List ℕ) (at : ℕ) : Refusal → Type 0 where
+  missing : length sheet < at + row-bytes n → Row-fault n sheet at (Length Certificate (length sheet))
+  stray : (j : ℕ) → at + row-bytes n ≤ length sheet → n ≤ j → j < 8 * row-bytes n → row sheet at j ≡ true →
+      Row-fault n sheet at (Range Certificate (at + j / 8))
+
+-- the bytes, with the byte in fault: there are too few or too many of them, or a bit from n on is set in a row that is whole
+pub data Byte-fault (n : ℕ) (sheet : List ℕ) : ℕ → Refusal → Type 0 where
+  cut : length sheet < needed n sheet → Byte-fault n sheet (length sheet) (Length Certificate (length sheet))
+  longer : needed n sheet < length sheet → Byte-fault n sheet (needed n sheet) (Length Certificate (needed n sheet))
+  stray : (i j : ℕ) → i < count n sheet + 2 → row-at n i + row-bytes n ≤ length sheet → n ≤ j → j < 8 * row-bytes n →
+      row sheet (row-at n i) j ≡ true → Byte-fault n sheet (row-at n i + j / 8) (Range Certificate (row-at n i + j / 8))
+
+-- a set that should have size k: it has another size or the first rule refuses it, or the second does
+pub data Set-fault (n : ℕ) (f g : Set → Bool) (k : ℕ) (s : Set) : ℕ → Refusal → Type 0 where
+  wrong-size : (size n s ≡ k → ⊥) → Set-fault n f g k s 0 (Refused k false)
+  first-refuses : f s ≡ false → Set-fault n f g k s 0 (Refused k false)
+  second-refuses : g s ≡ false → Set-fault n f g k s 1 (Refused k true)
+
+-- the dual set u of s, at offer x: on its side of u the side's rule lets it be added
+pub data Dual-fault (n : ℕ) (f g : Set → Bool) (s u : Set) : ℕ → Refusal → Type 0 where
+  within : (x : ℕ) → x < n → u x ≡ true → s x ≡ false → f (with (both s u) x) ≡ true → Dual-fault n f g s u x (Dual x)
+  beyond : (x : ℕ) → x < n → u x ≡ false → s x ≡ false → g (with (outside s u) x) ≡ true → Dual-fault n f g s u x (Dual x)
+
+-- an offer has a greater number than a chosen one, and it can be added or come for that one
+abbrev pub Outdone : ℕ → (Set → Bool) → (ℕ → ℤ) → Set → ℕ → Type 0
+Outdone n f p s x =
+    (y : ℕ) × (y < n) × (s y ≡ true) × (p y <ℤ p x) × ((f (with s x) ≡ true) ⊎ (f (with (without s y) x) ≡ true))
+
+-- the numbers p and q of a set s of size k, at offer x: they do not add up to its weight, or it outdoes a chosen one
+pub data Split-fault (n : ℕ) (f g : Set → Bool) (w : ℕ → ℕ) (p q : ℕ → ℤ) (k : ℕ) (s : Set) : ℕ → Refusal → Type 0 where
+  unequal : (x : ℕ) → x < n → (p x +ℤ q x ≡ pos (w x) → ⊥) → Split-fault n f g w p q k s x (Split k x)
+  first : (x : ℕ) → x < n → s x ≡ false → Outdone n f p s x → Split-fault n f g w p q k s x (Split k x)
+  second : (x : ℕ) → x < n → s x ≡ false → Outdone n g q s x → Split-fault n f g w p q k s x (Split k x)
+
+-- the parts of a check, in their order
+pub data Stage : Type 0 where
+  bytes : Stage
+  memory : Stage
+  largest : Stage
+  dual : Stage
+  sized : ℕ → Stage
+  numbers : ℕ → Stage
+
+abbrev pub turn : Stage → ℕ
+turn bytes = 0
+turn memory = 1
+turn largest = 2
+turn dual = 3
+turn (sized k) = 2 + 2 * k
+turn (numbers k) = 3 + 2 * k
+
+-- all that can be wrong, with its place in its stage; `words` is how much memory is lent
+abbrev pub Fault : (n : ℕ) → (f g : Set → Bool) → (ℕ → ℕ) → List ℕ → ℕ → Stage → ℕ → Refusal → Type 0
+Fault n f g w sheet words bytes p e = Byte-fault n sheet p e
+Fault n f g w sheet words memory p e = (words < work-length n) × (p ≡ 0) × (e ≡ Short Work)
+Fault n f g w sheet words largest p e = Set-fault n f g (count n sheet) (largest-set n sheet) p e
+Fault n f g w sheet words dual p e = Dual-fault n f g (largest-set n sheet) (dual-set n sheet) p e
+Fault n f g w sheet words (sized k) p e = (1 ≤ k) × (k ≤ count n sheet) × Set-fault n f g k (sized-set n sheet k) p e
+Fault n f g w sheet words (numbers k) p e =
+    (1 ≤ k) × (k ≤ count n sheet) × Split-fault n f g w (first-part n sheet k) (second-part n sheet k) k (sized-set n sheet k) p e
+
+-- faults of one stage: none, and the one with the least place
+abbrev pub Clear : (ℕ → Refusal → Type 0) → Type 0
+Clear fault = (p : ℕ) (e : Refusal) → fault p e → ⊥
+
+abbrev pub Earliest : (ℕ → Refusal → Type 0) → Refusal → Type 0
+Earliest fault e = (p : ℕ) × fault p e × ((q : ℕ) (d : Refusal) → fault q d → p ≤ q)
+
+-- the first fault of all: of the earliest stage, and there the one with the least place
+abbrev pub First-fault : (Stage → ℕ → Refusal → Type 0) → Refusal → Type 0
+First-fault fault e =
+    (a : Stage) × Earliest (fault a) e × ((b : Stage) (q : ℕ) (d : Refusal) → fault b q d → turn a ≤ turn b)

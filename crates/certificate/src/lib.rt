@@ -1,0 +1,2 @@
+// The check of a certificate, written by anybody, against a file of offers.
+mod layout;
