@@ -36,21 +36,33 @@ pub data Set-fault (n : ℕ) (f g : Set → Bool) (k : ℕ) (s : Set) : ℕ → 
   first-refuses : f s ≡ false → Set-fault n f g k s 0 (Refused k false)
   second-refuses : g s ≡ false → Set-fault n f g k s 1 (Refused k true)
 
--- the dual set u of s, at offer x: on its side of u the side's rule lets it be added
-pub data Dual-fault (n : ℕ) (f g : Set → Bool) (s u : Set) : ℕ → Refusal → Type 0 where
-  within : (x : ℕ) → x < n → u x ≡ true → s x ≡ false → f (with (both s u) x) ≡ true → Dual-fault n f g s u x (Dual x)
-  beyond : (x : ℕ) → x < n → u x ≡ false → s x ≡ false → g (with (outside s u) x) ≡ true → Dual-fault n f g s u x (Dual x)
+-- offer x could be added on its side of the dual set u of s, by that side's rule
+pub data Joins (f g : Set → Bool) (s u : Set) (x : ℕ) : Type 0 where
+  within : u x ≡ true → s x ≡ false → f (with (both s u) x) ≡ true → Joins f g s u x
+  beyond : u x ≡ false → s x ≡ false → g (with (outside s u) x) ≡ true → Joins f g s u x
 
--- an offer has a greater number than a chosen one, and it can be added or come for that one
-abbrev pub Outdone : ℕ → (Set → Bool) → (ℕ → ℤ) → Set → ℕ → Type 0
-Outdone n f p s x =
+-- the dual set, at its offers
+abbrev pub Dual-fault : (n : ℕ) → (f g : Set → Bool) → (s u : Set) → ℕ → Refusal → Type 0
+Dual-fault n f g s u x e = (x < n) × (e ≡ Dual x) × Joins f g s u x
+
+-- an offer has a greater number than a chosen one, and it can come for that one
+abbrev pub Outdoes : ℕ → (Set → Bool) → (ℕ → ℤ) → Set → ℕ → Type 0
+Outdoes n f p s x = (y : ℕ) × (y < n) × (s y ≡ true) × (p y <ℤ p x) × (f (with (without s y) x) ≡ true)
+
+-- the same, where it can be added or come for that one
+abbrev pub Outbids : ℕ → (Set → Bool) → (ℕ → ℤ) → Set → ℕ → Type 0
+Outbids n f p s x =
     (y : ℕ) × (y < n) × (s y ≡ true) × (p y <ℤ p x) × ((f (with s x) ≡ true) ⊎ (f (with (without s y) x) ≡ true))
 
--- the numbers p and q of a set s of size k, at offer x: they do not add up to its weight, or it outdoes a chosen one
-pub data Split-fault (n : ℕ) (f g : Set → Bool) (w : ℕ → ℕ) (p q : ℕ → ℤ) (k : ℕ) (s : Set) : ℕ → Refusal → Type 0 where
-  unequal : (x : ℕ) → x < n → (p x +ℤ q x ≡ pos (w x) → ⊥) → Split-fault n f g w p q k s x (Split k x)
-  first : (x : ℕ) → x < n → s x ≡ false → Outdone n f p s x → Split-fault n f g w p q k s x (Split k x)
-  second : (x : ℕ) → x < n → s x ≡ false → Outdone n g q s x → Split-fault n f g w p q k s x (Split k x)
+-- offer x's numbers do not add up to its weight, or it is not chosen and outbids a chosen one by a rule and its number
+pub data Misjudged (n : ℕ) (f g : Set → Bool) (w : ℕ → ℕ) (p q : ℕ → ℤ) (s : Set) (x : ℕ) : Type 0 where
+  unequal : (p x +ℤ q x ≡ pos (w x) → ⊥) → Misjudged n f g w p q s x
+  first : s x ≡ false → Outbids n f p s x → Misjudged n f g w p q s x
+  second : s x ≡ false → Outbids n g q s x → Misjudged n f g w p q s x
+
+-- the numbers p and q of a set s of size k, at its offers
+abbrev pub Split-fault : (n : ℕ) → (f g : Set → Bool) → (ℕ → ℕ) → (p q : ℕ → ℤ) → ℕ → Set → ℕ → Refusal → Type 0
+Split-fault n f g w p q k s x e = (x < n) × (e ≡ Split k x) × Misjudged n f g w p q s x
 
 -- the parts of a check, in their order
 pub data Stage : Type 0 where

@@ -1,2 +1,3 @@
 // The check of a certificate, written by anybody, against a file of offers.
 mod layout;
+mod split;
