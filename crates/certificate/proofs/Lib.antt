@@ -1,3 +1,4 @@
 mod Bytes
 mod Judging
+mod Offers
 mod Rows

@@ -8,7 +8,8 @@ use lib.ListN.{length}
 use Rattle.sets.specs.Bits.{row-words}
 use Rattle.sets.specs.Matroid.{Set, size}
 use Rattle.matroid.specs.Optimal.{Dual, Signed-split}
-use Rattle.matroid.specs.Rules.{kept-length}
+use Rattle.matroid.specs.Rules.{allows, Well, Ready, kept-length}
+use Rattle.matroid.specs.declared.problem.Problem.{Problem}
 use Rattle.certificate.specs.Layout.{row-at, largest-set, dual-set, sized-set, count, needed, first-part, second-part, Clean}
 
 -- a certificate has the length that its largest set asks for and clean rows, a dual set for its largest set, and for each
@@ -24,3 +25,23 @@ pub record Valid (n : ℕ) (f g : Set → Bool) (w : ℕ → ℕ) (sheet : List 
 -- how many words of memory the check takes: two sets and two kept states
 abbrev pub work-length : ℕ → ℕ
 work-length n = 2 * row-words n + 2 * kept-length n
+
+-- a problem of a file that can be asked: 1 to 600 offers with their weights, two well-formed rules
+pub record Usable (file : List ℕ) (problem : Problem) : Type 0 where
+  pub some : 1 ≤ problem .n
+  pub few : problem .n ≤ 600
+  pub weights : 2 + 4 * problem .n ≤ length file
+  pub first : Well file (problem .n) (problem .first)
+  pub second : Well file (problem .n) (problem .second)
+
+-- what the two rules allow
+abbrev pub by-first : List ℕ → Problem → Set → Bool
+by-first file problem = allows file (problem .n) (problem .first)
+
+abbrev pub by-second : List ℕ → Problem → Set → Bool
+by-second file problem = allows file (problem .n) (problem .second)
+
+-- the two kept states are those of the sets s and t
+pub record Kept (file : List ℕ) (problem : Problem) (s t : Set) (a b : List ℕ) : Type 0 where
+  pub first : Ready file (problem .n) (problem .first) s a
+  pub second : Ready file (problem .n) (problem .second) t b

@@ -10,6 +10,7 @@ ghost use Rattle.std.specs.Results.{Cases};
 ghost use Rattle.matroid.specs.Problem.{weight-of};
 ghost use Rattle.matroid.specs.Rules.{allows, Well, Ready};
 ghost use Rattle.certificate.specs.Layout.{part};
+ghost use Rattle.certificate.specs.Validity.{Usable, Kept, by-first, by-second};
 ghost use Rattle.certificate.specs.Faults.{Outdoes, Misjudged, Split-fault, Clear, Earliest};
 use matroid::can_exchange;
 use matroid::problem::Problem;
@@ -82,11 +83,10 @@ fn misjudged(
     at: usize,
     x: usize,
 ) -> bool
-    requires well { ⌜ Well (now file) (problem .n) (problem .first) ⌝ ∗ ⌜ Well (now file) (problem .n) (problem .second) ⌝ ∗ ⌜ problem .n ≤ 600 ⌝ }
-    requires lengths { ⌜ row-words (problem .n) ≤ length (now set) ⌝ ∗ ⌜ 2 + 4 * problem .n ≤ length (now file) ⌝ ∗ ⌜ at + 16 * problem .n ≤ length (now sheet) ⌝ }
-    requires ready { ⌜ Ready (now file) (problem .n) (problem .first) (marked (now set)) (now «first_state») ⌝ ∗ ⌜ Ready (now file) (problem .n) (problem .second) (marked (now set)) (now «second_state») ⌝ }
-    requires below { ⌜ x < problem .n ⌝ }
-    ensures { λ r. ⌜ Decides r (Misjudged (problem .n) (allows (now (file .entry)) (problem .n) (problem .first)) (allows (now (file .entry)) (problem .n) (problem .second)) (weight-of (now (file .entry))) (part (now (sheet .entry)) at) (part (now (sheet .entry)) (at + 8)) (marked (now (set .entry))) x) ⌝ }
+    requires usable { ⌜ Usable (now file) problem ⌝ ∗ ⌜ x < problem .n ⌝ }
+    requires lengths { ⌜ row-words (problem .n) ≤ length (now set) ⌝ ∗ ⌜ at + 16 * problem .n ≤ length (now sheet) ⌝ }
+    requires ready { ⌜ Kept (now file) problem (marked (now set)) (marked (now set)) (now «first_state») (now «second_state») ⌝ }
+    ensures { λ r. ⌜ Decides r (Misjudged (problem .n) (by-first (now (file .entry)) problem) (by-second (now (file .entry)) problem) (weight-of (now (file .entry))) (part (now (sheet .entry)) at) (part (now (sheet .entry)) (at + 8)) (marked (now (set .entry))) x) ⌝ }
 {
     let weight = read_u32(file, 2 + 4 * x);
     if !splits(sheet, at, x, weight) {
@@ -117,4 +117,29 @@ fn misjudged(
         at + 8,
         x,
     )
+}
+
+// The numbers of a set of size k, which begin at byte `at`, offer by offer.
+pub fn check_numbers(
+    file: &[u8],
+    problem: Problem,
+    set: &[u32],
+    first_state: &[u32],
+    second_state: &[u32],
+    sheet: &[u8],
+    at: usize,
+    k: usize,
+) -> Result<(), Refusal>
+    requires usable { ⌜ Usable (now file) problem ⌝ }
+    requires lengths { ⌜ row-words (problem .n) ≤ length (now set) ⌝ ∗ ⌜ at + 16 * problem .n ≤ length (now sheet) ⌝ }
+    requires ready { ⌜ Kept (now file) problem (marked (now set)) (marked (now set)) (now «first_state») (now «second_state») ⌝ }
+    ensures { λ r. ⌜ Cases r (λ _. Clear (Split-fault (problem .n) (by-first (now (file .entry)) problem) (by-second (now (file .entry)) problem) (weight-of (now (file .entry))) (part (now (sheet .entry)) at) (part (now (sheet .entry)) (at + 8)) k (marked (now (set .entry)))))
+        (λ e. Earliest (Split-fault (problem .n) (by-first (now (file .entry)) problem) (by-second (now (file .entry)) problem) (weight-of (now (file .entry))) (part (now (sheet .entry)) at) (part (now (sheet .entry)) (at + 8)) k (marked (now (set .entry)))) e) ⌝ }
+{
+    for x in 0..problem.n {
+        if misjudged(file, problem, set, first_state, second_state, sheet, at, x) {
+            return Err(Refusal::Split(k, x));
+        }
+    }
+    Ok(())
 }

@@ -55,7 +55,7 @@ returns c =
     let q = part (c .args .sheet .now) (c .args .at + 8) in
     let e : 32 * 0 + c .args .x ≡ c .args .x = omega arith in
     judged-second n (allows file n (c .args .problem .first)) (allows file n (c .args .problem .second)) (weight-of file) p q (marked (c .args .set .now)) (c .args .x)
-    (rule-matroid file n (c .args .problem .first) (c .pre .well .0)) (rule-matroid file n (c .args .problem .second) (c .pre .well .1 .0))
+    (rule-matroid file n (c .args .problem .first) (c .pre .usable .0 .first)) (rule-matroid file n (c .args .problem .second) (c .pre .usable .0 .second))
     (sym (ap (marked (c .args .set .now)) e) ∙ sym (c .contains .ensures) ∙ c .if-contains .left)
     (c .splits .ensures .0 (c .if-not-splits .left) ∙ ap pos (c .read-u32-weight .ensures))
     (not-from-decides (c .outdoes .result) (c .outdoes .ensures) (c .if-outdoes .left))
