@@ -2,3 +2,5 @@ mod Bytes
 mod Judging
 mod Offers
 mod Rows
+mod SetFaults
+mod SizeFaults

@@ -1,5 +1,5 @@
 -- Where the rows of a certificate stand, one behind the other.
-use mathlib.Core.Path.{_≡_, refl, ap}
+use mathlib.Core.Path.{_≡_, ap, _∙_}
 use Prim.Native.Nat.{ℕ, suc, _+_, _-_, _*_, _/_, _^_, _≤_, _<_}
 use native.Mathlib.Nat.{mul-le-mul, mul-le-mul-right, add-mul}
 use native.Mathlib.Omega.{arith}
@@ -26,3 +26,16 @@ row-apart n i j h =
 -- a bit from n on is in the last byte of its row
 pub last-byte : (n j : ℕ) → 1 ≤ n → n ≤ j → j < 8 * row-bytes n → j / 8 + 1 ≡ row-bytes n
 last-byte n j o h l = omega arith
+
+-- the numbers of size k end where the next row begins, which is no later than the end
+pub block-end : (n k m : ℕ) → 1 ≤ k → k ≤ m → row-at n (k + 1) + row-bytes n + 16 * n ≤ row-at n (m + 2)
+block-end n k m o h =
+    let a : (k + 2) * row-bytes n ≤ (m + 2) * row-bytes n = mul-le-mul-right (row-bytes n) (let l : k + 2 ≤ m + 2 = omega arith in l) in
+    let b : k * (16 * n) ≤ m * (16 * n) = mul-le-mul-right (16 * n) h in
+    let e : (k + 2) * row-bytes n ≡ (k + 1) * row-bytes n + row-bytes n = one-more (k + 1) (k + 2) (row-bytes n) (omega arith) in
+    let d : k * (16 * n) ≡ (k + 1 - 2) * (16 * n) + 16 * n = one-more (k + 1 - 2) k (16 * n) (omega arith) in
+    let z : (m + 2 - 2) * (16 * n) ≡ m * (16 * n) = ap (λ (i : ℕ). i * (16 * n)) (let t : m + 2 - 2 ≡ m = omega arith in t) in
+    omega arith
+  where
+    one-more : (i j c : ℕ) → j ≡ i + 1 → j * c ≡ i * c + c
+    one-more i j c e = ap (λ (v : ℕ). v * c) e ∙ (let r : (i + 1) * c ≡ i * c + 1 * c = add-mul i 1 c in omega arith)

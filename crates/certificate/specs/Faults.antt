@@ -64,6 +64,36 @@ pub data Misjudged (n : ℕ) (f g : Set → Bool) (w : ℕ → ℕ) (p q : ℕ �
 abbrev pub Split-fault : (n : ℕ) → (f g : Set → Bool) → (ℕ → ℕ) → (p q : ℕ → ℤ) → ℕ → Set → ℕ → Refusal → Type 0
 Split-fault n f g w p q k s x e = (x < n) × (e ≡ Split k x) × Misjudged n f g w p q s x
 
+-- faults of one stage: none, and the one with the least place
+abbrev pub Clear : (ℕ → Refusal → Type 0) → Type 0
+Clear fault = (p : ℕ) (e : Refusal) → fault p e → ⊥
+
+abbrev pub Earliest : (ℕ → Refusal → Type 0) → Refusal → Type 0
+Earliest fault e = (p : ℕ) × fault p e × ((q : ℕ) (d : Refusal) → fault q d → p ≤ q)
+
+-- the set and the numbers of size k
+abbrev pub Sized-fault : (n : ℕ) → (f g : Set → Bool) → List ℕ → ℕ → ℕ → Refusal → Type 0
+Sized-fault n f g sheet k p e = (1 ≤ k) × (k ≤ count n sheet) × Set-fault n f g k (sized-set n sheet k) p e
+
+abbrev pub Numbers-fault : (n : ℕ) → (f g : Set → Bool) → (ℕ → ℕ) → List ℕ → ℕ → ℕ → Refusal → Type 0
+Numbers-fault n f g w sheet k p e =
+    (1 ≤ k) × (k ≤ count n sheet) × Split-fault n f g w (first-part n sheet k) (second-part n sheet k) k (sized-set n sheet k) p e
+
+-- a size is right, or e is its first fault: in its set, or in its numbers
+abbrev pub Right : (n : ℕ) → (f g : Set → Bool) → (ℕ → ℕ) → List ℕ → ℕ → Type 0
+Right n f g w sheet k = Clear (Sized-fault n f g sheet k) × Clear (Numbers-fault n f g w sheet k)
+
+abbrev pub Wrong : (n : ℕ) → (f g : Set → Bool) → (ℕ → ℕ) → List ℕ → ℕ → Refusal → Type 0
+Wrong n f g w sheet k e =
+    Earliest (Sized-fault n f g sheet k) e ⊎ (Clear (Sized-fault n f g sheet k) × Earliest (Numbers-fault n f g w sheet k) e)
+
+-- all sizes from 1 on below m are right, or e is the first fault of the first that is not
+abbrev pub All-right : (n : ℕ) → (f g : Set → Bool) → (ℕ → ℕ) → List ℕ → ℕ → Type 0
+All-right n f g w sheet m = (k : ℕ) → k < m → 1 ≤ k → Right n f g w sheet k
+
+abbrev pub Some-wrong : (n : ℕ) → (f g : Set → Bool) → (ℕ → ℕ) → List ℕ → ℕ → Refusal → Type 0
+Some-wrong n f g w sheet m e = (k : ℕ) × (1 ≤ k) × (k < m) × Wrong n f g w sheet k e × All-right n f g w sheet k
+
 -- the parts of a check, in their order
 pub data Stage : Type 0 where
   bytes : Stage
@@ -87,16 +117,8 @@ Fault n f g w sheet words bytes p e = Byte-fault n sheet p e
 Fault n f g w sheet words memory p e = (words < work-length n) × (p ≡ 0) × (e ≡ Short Work)
 Fault n f g w sheet words largest p e = Set-fault n f g (count n sheet) (largest-set n sheet) p e
 Fault n f g w sheet words dual p e = Dual-fault n f g (largest-set n sheet) (dual-set n sheet) p e
-Fault n f g w sheet words (sized k) p e = (1 ≤ k) × (k ≤ count n sheet) × Set-fault n f g k (sized-set n sheet k) p e
-Fault n f g w sheet words (numbers k) p e =
-    (1 ≤ k) × (k ≤ count n sheet) × Split-fault n f g w (first-part n sheet k) (second-part n sheet k) k (sized-set n sheet k) p e
-
--- faults of one stage: none, and the one with the least place
-abbrev pub Clear : (ℕ → Refusal → Type 0) → Type 0
-Clear fault = (p : ℕ) (e : Refusal) → fault p e → ⊥
-
-abbrev pub Earliest : (ℕ → Refusal → Type 0) → Refusal → Type 0
-Earliest fault e = (p : ℕ) × fault p e × ((q : ℕ) (d : Refusal) → fault q d → p ≤ q)
+Fault n f g w sheet words (sized k) p e = Sized-fault n f g sheet k p e
+Fault n f g w sheet words (numbers k) p e = Numbers-fault n f g w sheet k p e
 
 -- the first fault of all: of the earliest stage, and there the one with the least place
 abbrev pub First-fault : (Stage → ℕ → Refusal → Type 0) → Refusal → Type 0

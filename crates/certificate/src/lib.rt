@@ -1,3 +1,4 @@
 // The check of a certificate, written by anybody, against a file of offers.
 mod layout;
+mod sized;
 mod split;

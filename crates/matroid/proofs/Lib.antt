@@ -1,3 +1,4 @@
+pub mod Along
 pub mod Gains
 pub mod ManyExchanges
 pub mod OneMatroid
