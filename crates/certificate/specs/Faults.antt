@@ -94,6 +94,19 @@ All-right n f g w sheet m = (k : ℕ) → k < m → 1 ≤ k → Right n f g w sh
 abbrev pub Some-wrong : (n : ℕ) → (f g : Set → Bool) → (ℕ → ℕ) → List ℕ → ℕ → Refusal → Type 0
 Some-wrong n f g w sheet m e = (k : ℕ) × (1 ≤ k) × (k < m) × Wrong n f g w sheet k e × All-right n f g w sheet k
 
+-- the largest set, its dual set and all sizes are right, or e is the first fault of these
+abbrev pub Parts-right : (n : ℕ) → (f g : Set → Bool) → (ℕ → ℕ) → List ℕ → Type 0
+Parts-right n f g w sheet =
+    Clear (Set-fault n f g (count n sheet) (largest-set n sheet)) × Clear (Dual-fault n f g (largest-set n sheet) (dual-set n sheet)) ×
+    All-right n f g w sheet (count n sheet + 1)
+
+abbrev pub Parts-wrong : (n : ℕ) → (f g : Set → Bool) → (ℕ → ℕ) → List ℕ → Refusal → Type 0
+Parts-wrong n f g w sheet e =
+    Earliest (Set-fault n f g (count n sheet) (largest-set n sheet)) e ⊎
+    (Clear (Set-fault n f g (count n sheet) (largest-set n sheet)) ×
+    (Earliest (Dual-fault n f g (largest-set n sheet) (dual-set n sheet)) e ⊎
+    (Clear (Dual-fault n f g (largest-set n sheet) (dual-set n sheet)) × Some-wrong n f g w sheet (count n sheet + 1) e)))
+
 -- the parts of a check, in their order
 pub data Stage : Type 0 where
   bytes : Stage
