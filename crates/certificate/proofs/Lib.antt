@@ -6,3 +6,5 @@ mod Rows
 mod SetFaults
 mod Sides
 mod SizeFaults
+mod Soundness
+mod Validating

@@ -39,3 +39,10 @@ block-end n k m o h =
   where
     one-more : (i j c : ℕ) → j ≡ i + 1 → j * c ≡ i * c + c
     one-more i j c e = ap (λ (v : ℕ). v * c) e ∙ (let r : (i + 1) * c ≡ i * c + 1 * c = add-mul i 1 c in omega arith)
+
+-- the first two rows are within any certificate
+pub two-rows : (n m : ℕ) → row-at n 2 ≤ row-at n (m + 2)
+two-rows n m =
+    let a : 2 * row-bytes n ≤ (m + 2) * row-bytes n = mul-le-mul-right (row-bytes n) (let l : 2 ≤ m + 2 = omega arith in l) in
+    let z : (2 - 2) * (16 * n) ≡ 0 = omega arith in
+    omega arith
