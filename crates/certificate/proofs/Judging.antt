@@ -61,3 +61,7 @@ module _ (n : ℕ) (f g : Set → Bool) (w : ℕ → ℕ) (p q : ℕ → ℤ) (s
       Decides r (Outdoes n g q s x) → Decides r (Misjudged n f g w p q s x)
   judged-second mf mg o e no-first r d =
       (λ h. second o (outdoes-outbids n g q s x (d .0 h)), λ m. d .1 (left-second mf mg e no-first m))
+
+-- and one that held
+pub less : (a b c d : ℤ) → ltZ a b ≡ true → a ≡ c → b ≡ d → c <ℤ d
+less a b c d h p q = let k : ltZ c d ≡ true = subst (λ (z : ℤ). ltZ z d ≡ true) p (subst (λ (z : ℤ). ltZ a z ≡ true) q h) in grind (arith, ints)

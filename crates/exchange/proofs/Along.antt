@@ -1,15 +1,15 @@
 -- The set that a path leads to: as many exchanges at once, for either matroid, and what it weighs.
 use mathlib.Core.Path.{_≡_, refl, ap, sym, subst}
 use mathlib.Core.Bool.{Bool, true, false, _&&_, _||_, not}
-use Prim.Native.Nat.{ℕ, zero, suc, _+_, _-_, _≤_, _<_}
+use Prim.Native.Nat.{ℕ, zero, suc, _+_, _≤_, _<_}
 use native.Mathlib.Omega.{arith}
-use mathlib.Core.Logic.{_⊎_, inl, inr, ⊎-elim}
+use mathlib.Core.Logic.{⊎-elim}
 use Rattle.std.proofs.shelf.Tests.{cases-lt, cases-eq}
-use lib.Dec.{eqb, ltb}
-use Rattle.sets.specs.Matroid.{pick, Set, weight, without, with}
+use lib.Dec.{eqb}
+use Rattle.sets.specs.Matroid.{Set, weight, without, with}
 use Rattle.sets.proofs.Weights.{weight-same, weight-with, weight-without}
 use Rattle.matroid.specs.Exchanges.{among, exchanged}
-use Rattle.exchange.specs.Paths.{total, Route, Augmenting, Distinct, along}
+use Rattle.exchange.specs.Paths.{total, Route, Distinct, along}
 
 -- a value that none of the first m has is not among them
 pub among-none : (z : ℕ → ℕ) (m v : ℕ) → ((i : ℕ) → i < m → z i ≡ v → ⊥) → among z m v ≡ false
@@ -35,6 +35,14 @@ among-all z (suc m) v s b all h = ⊎-elim
     (λ (e : v ≡ z m → ⊥). let l : among z m v ≡ true = grind arith in among-all z m v s b (λ i p. all i (omega arith)) l)
     (cases-eq v (z m))
 
+-- two sequences with the same elements
+pub among-same : (z u : ℕ → ℕ) (m v : ℕ) → ((i : ℕ) → i < m → among u m (z i) ≡ true) → ((i : ℕ) → i < m → among z m (u i) ≡ true) →
+    among z m v ≡ among u m v
+among-same z u m v to from = equal (among z m v) (among u m v) (among-all z m v (among u m) true to) (among-all u m v (among z m) true from)
+  where
+    equal : (p q : Bool) → (p ≡ true → q ≡ true) → (q ≡ true → p ≡ true) → p ≡ q
+    equal p q h l = grind arith
+
 -- the first may be taken out in front
 pub among-front : (z : ℕ → ℕ) (m v : ℕ) → among z (suc m) v ≡ (eqb v (z 0) || among (λ i. z (suc i)) m v)
 among-front z zero v = refl
@@ -54,12 +62,12 @@ weight-coming n w x t zero below fresh once =
 weight-coming n w x t (suc m) below fresh once =
     let before : Set = λ v. t v || among x m v in
     let r : weight n w before ≡ weight n w t + total w x m =
-        weight-coming n w x t m (λ i h. below i (omega arith)) (λ i h. fresh i (omega arith)) (λ i j h l. once i j (omega arith) (omega arith)) in
+    weight-coming n w x t m (λ i h. below i (omega arith)) (λ i h. fresh i (omega arith)) (λ i j h l. once i j (omega arith) (omega arith)) in
     let new : among x m (x m) ≡ false = among-none x m (x m) (λ i h e. omega (arith, once i m (omega arith) (omega arith) e)) in
     let out : t (x m) ≡ false = fresh m (omega arith) in
     let more : weight n w (with before (x m)) ≡ weight n w before + w (x m) = weight-with n w before (x m) (below m (omega arith)) (grind arith) in
     let same : weight n w (λ v. t v || among x (suc m) v) ≡ weight n w (with before (x m)) =
-        weight-same n w w (λ v. t v || among x (suc m) v) (with before (x m)) (λ v h. refl) (λ v h. turn (t v) (among x m v) (eqb v (x m))) in
+    weight-same n w w (λ v. t v || among x (suc m) v) (with before (x m)) (λ v h. refl) (λ v h. turn (t v) (among x m v) (eqb v (x m))) in
     omega arith
   where
     turn : (p q r : Bool) → (p || (r || q)) ≡ ((p || q) || r)
@@ -74,12 +82,12 @@ weight-going n w y s zero below held once =
 weight-going n w y s (suc m) below held once =
     let before : Set = λ v. s v && not (among y m v) in
     let r : weight n w before + total w y m ≡ weight n w s =
-        weight-going n w y s m (λ i h. below i (omega arith)) (λ i h. held i (omega arith)) (λ i j h l. once i j (omega arith) (omega arith)) in
+    weight-going n w y s m (λ i h. below i (omega arith)) (λ i h. held i (omega arith)) (λ i j h l. once i j (omega arith) (omega arith)) in
     let new : among y m (y m) ≡ false = among-none y m (y m) (λ i h e. omega (arith, once i m (omega arith) (omega arith) e)) in
     let here : s (y m) ≡ true = held m (omega arith) in
     let less : weight n w (without before (y m)) + w (y m) ≡ weight n w before = weight-without n w before (y m) (below m (omega arith)) (grind arith) in
     let same : weight n w (λ v. s v && not (among y (suc m) v)) ≡ weight n w (without before (y m)) =
-        weight-same n w w (λ v. s v && not (among y (suc m) v)) (without before (y m)) (λ v h. refl) (λ v h. turn (s v) (among y m v) (eqb v (y m))) in
+    weight-same n w w (λ v. s v && not (among y (suc m) v)) (without before (y m)) (λ v h. refl) (λ v h. turn (s v) (among y m v) (eqb v (y m))) in
     omega arith
   where
     turn : (p q r : Bool) → (p && not (r || q)) ≡ ((p && not q) && not r)
@@ -113,11 +121,11 @@ module _ (n : ℕ) (f g : Set → Bool) (s : Set) (k : ℕ) (x y : ℕ → ℕ) 
   pub along-weighs : (w : ℕ → ℕ) → Distinct k x y → weight n w (along s x y k) + total w y k ≡ weight n w s + total w x (suc k)
   along-weighs w once =
       let less : weight n w (λ v. s v && not (among y k v)) + total w y k ≡ weight n w s =
-          weight-going n w y s k (route .y-below) (route .y-held) (once .goes-once) in
+      weight-going n w y s k (route .y-below) (route .y-held) (once .goes-once) in
       let more : weight n w (along s x y k) ≡ weight n w (λ v. s v && not (among y k v)) + total w x (suc k) =
-          weight-coming n w x (λ v. s v && not (among y k v)) (suc k) (λ i h. route .x-below i (omega arith))
-              (λ i h. out (s (x i)) (among y k (x i)) (route .x-fresh i (omega arith)))
-              (λ i j h l e. once .comes-once i j (omega arith) (omega arith) e) in
+      weight-coming n w x (λ v. s v && not (among y k v)) (suc k) (λ i h. route .x-below i (omega arith))
+      (λ i h. out (s (x i)) (among y k (x i)) (route .x-fresh i (omega arith)))
+      (λ i j h l e. once .comes-once i j (omega arith) (omega arith) e) in
       omega arith
     where
       out : (p q : Bool) → p ≡ false → (p && not q) ≡ false

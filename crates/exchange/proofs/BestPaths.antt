@@ -1,17 +1,16 @@
 -- Best paths lead to allowed sets, where the set has a weight splitting.
-use mathlib.Core.Path.{_≡_, refl, ap, sym, subst, subst₂, _∙_}
-use mathlib.Core.Bool.{Bool, true, false, _&&_, _||_, not}
+use mathlib.Core.Path.{_≡_, ap, sym, subst, subst₂, _∙_}
+use mathlib.Core.Bool.{Bool, true, false}
 use mathlib.Core.Logic.{_⊎_, inl, inr, ⊎-elim}
-use Prim.Native.Nat.{ℕ, zero, suc, _+_, _-_, _≤_, _<_}
+use Prim.Native.Nat.{ℕ, suc, _+_, _-_, _≤_, _<_}
 use native.Mathlib.Omega.{arith}
-use lib.Dec.{eqb, ltb}
-use Rattle.std.proofs.shelf.Tests.{cases-lt, cases-eq, cases-bool, cases-order}
-use Rattle.sets.specs.Matroid.{pick, Set, size, weight, without, with, Matroid}
+use Rattle.std.proofs.shelf.Tests.{cases-lt, cases-bool, cases-order}
+use Rattle.sets.specs.Matroid.{Set, size, without, with, Matroid}
 use Rattle.sets.proofs.MatroidLaws.{allowed-within, allowed-same}
 use Rattle.sets.proofs.FiniteSets.{size-same}
 use Rattle.matroid.specs.Optimal.{Split}
-use Rattle.matroid.specs.Exchanges.{among, exchanged, Pairs, Falling, Many-exchanges-by-keys-and-one}
-use Rattle.exchange.specs.Paths.{total, Route, Augmenting, Distinct, No-more, As-much, Best-path, along, Augmented, Best-augments, Best-of-all}
+use Rattle.matroid.specs.Exchanges.{exchanged, Falling, Many-exchanges-by-keys-and-one}
+use Rattle.exchange.specs.Paths.{total, Augmenting, Distinct, No-more, As-much, Best-path, along, Augmented, Best-augments, Best-of-all}
 use Rattle.exchange.proofs.Cuts.{cut, later, total-parts}
 use Rattle.exchange.proofs.Cycles.{cycle-first, cycle-second}
 use Rattle.exchange.proofs.Shortcuts.{shortcut-first, shortcut-second, shortcut-distinct}
@@ -59,32 +58,36 @@ module _ (n : ℕ) (f g : Set → Bool) (w a b : ℕ → ℕ) (s : Set) (k : ℕ
       behind r once =
           let up : No-more w (r .steps) (r .comes) (r .goes) k x y = best .most (r .steps) (r .comes) (r .goes) (r .path) once in
           let down : No-more w l u v (r .steps) (r .comes) (r .goes) = r .adds in
-          let fewer : r .steps < l = r .fewer in
-          (omega arith, λ same.
-              let few : k ≤ r .steps = best .fewest (r .steps) (r .comes) (r .goes) (r .path) once (omega arith) in
-              omega arith)
+          let fewer : r .steps < l = r .fewer in (
+            omega arith,
+            λ same.
+                let few : k ≤ r .steps = best .fewest (r .steps) (r .comes) (r .goes) (r .path) once (omega arith) in
+                omega arith,
+          )
 
   -- a shortcut has fewer steps, so it loses weight
   loses : (d e p q : ℕ) → k ≡ suc d + e → p ≤ suc e → q ≤ e → Augmenting n f g s e (cut x p (suc d)) (cut y q (suc d)) →
       total w (later y q) (suc d) < total w (later x p) (suc d)
   loses d e p q whole px qy path = ⊎-elim (λ (l : total w (later y q) (suc d) < total w (later x p) (suc d)). l)
       (λ (l : total w (later x p) (suc d) ≤ total w (later y q) (suc d)).
-          let once : Distinct e (cut x p (suc d)) (cut y q (suc d)) =
-              shortcut-distinct (suc d) e p q x y (subst (λ m. Distinct m x y) whole best-distinct) in
-          let cx : total w (cut x p (suc d)) (suc e) + total w (later x p) (suc d) ≡ total w x (suc k) =
-              cut-weighs w x (suc k) (suc d) (suc e) p (omega arith) px in
-          let cy : total w (cut y q (suc d)) e + total w (later y q) (suc d) ≡ total w y k = cut-weighs w y k (suc d) e q whole qy in
-          let up : No-more w e (cut x p (suc d)) (cut y q (suc d)) k x y = best .most e (cut x p (suc d)) (cut y q (suc d)) path once in
-          let few : k ≤ e = best .fewest e (cut x p (suc d)) (cut y q (suc d)) path once (omega arith) in
-          absurd (omega arith))
+      let once : Distinct e (cut x p (suc d)) (cut y q (suc d)) =
+      shortcut-distinct (suc d) e p q x y (subst (λ m. Distinct m x y) whole best-distinct) in
+      let cx : total w (cut x p (suc d)) (suc e) + total w (later x p) (suc d) ≡ total w x (suc k) =
+      cut-weighs w x (suc k) (suc d) (suc e) p (omega arith) px in
+      let cy : total w (cut y q (suc d)) e + total w (later y q) (suc d) ≡ total w y k = cut-weighs w y k (suc d) e q whole qy in
+      let up : No-more w e (cut x p (suc d)) (cut y q (suc d)) k x y = best .most e (cut x p (suc d)) (cut y q (suc d)) path once in
+      let few : k ≤ e = best .fewest e (cut x p (suc d)) (cut y q (suc d)) path once (omega arith) in
+      absurd (omega arith))
       (cases-lt (total w (later y q) (suc d)) (total w (later x p) (suc d)))
 
+  -- a shortcut by the first matroid loses weight
   loses-first : (d e p : ℕ) → k ≡ suc d + e → p ≤ e → (p ≡ 0 → f (with s (x (suc d))) ≡ true) →
       ((i : ℕ) → suc i ≡ p → f (with (without s (y i)) (x (suc d + p))) ≡ true) →
       total w (later y p) (suc d) < total w (later x p) (suc d)
   loses-first d e p whole h start step = loses d e p p whole (omega arith) h
       (shortcut-first n f g s (suc d) e p x y h (subst (λ m. Augmenting n f g s m x y) whole (best .path)) start step)
 
+  -- a shortcut by the second matroid loses weight
   loses-second : (d e p : ℕ) → k ≡ suc d + e → p ≤ e → (p < e → g (with (without s (y (suc d + p))) (x p)) ≡ true) →
       (p ≡ e → g (with s (x p)) ≡ true) → total w (later y p) (suc d) < total w (later x (suc p)) (suc d)
   loses-second d e p whole h step last = loses d e (suc p) p whole (omega arith) h
@@ -94,12 +97,12 @@ module _ (n : ℕ) (f g : Set → Bool) (w a b : ℕ → ℕ) (s : Set) (k : ℕ
   no-later-source : Matroid n f → (i : ℕ) → i < k → f (with s (x (suc i))) ≡ false
   no-later-source law i h = ⊎-elim
       (λ (yes′ : f (with s (x (suc i))) ≡ true).
-          let gain : total w (later y 0) (suc i) < total w (later x 0) (suc i) =
-              loses-first i (k - suc i) 0 (omega arith) (omega arith) (λ z. yes′) (λ j z. absurd (omega arith)) in
-          let back : total w (later x 0) (suc i) ≤ total w (later y 0) (suc i) =
-              cycle-first n f g w a b s k x y split (best .path .route) 0 i (omega arith)
-                  (comes-for n f s (y (0 + i)) (x 0) law (best .path .source)) in
-          absurd (omega arith))
+      let gain : total w (later y 0) (suc i) < total w (later x 0) (suc i) =
+      loses-first i (k - suc i) 0 (omega arith) (omega arith) (λ z. yes′) (λ j z. absurd (omega arith)) in
+      let back : total w (later x 0) (suc i) ≤ total w (later y 0) (suc i) =
+      cycle-first n f g w a b s k x y split (best .path .route) 0 i (omega arith)
+      (comes-for n f s (y (0 + i)) (x 0) law (best .path .source)) in
+      absurd (omega arith))
       (λ (no′ : f (with s (x (suc i))) ≡ false). no′)
       (cases-bool (f (with s (x (suc i)))))
 
@@ -107,14 +110,14 @@ module _ (n : ℕ) (f g : Set → Bool) (w a b : ℕ → ℕ) (s : Set) (k : ℕ
   no-earlier-sink : Matroid n g → (i : ℕ) → i < k → g (with s (x i)) ≡ false
   no-earlier-sink law i h = ⊎-elim
       (λ (yes′ : g (with s (x i)) ≡ true).
-          let d : ℕ = k - suc i in
-          let gain : total w (later y i) (suc d) < total w (later x (suc i)) (suc d) =
-              loses-second d i i (omega arith) (omega arith) (λ z. absurd (omega arith)) (λ z. yes′) in
-          let end : k ≡ suc i + d = omega arith in
-          let back : total w (later x (suc i)) (suc d) ≤ total w (later y i) (suc d) =
-              cycle-second n f g w a b s k x y split (best .path .route) i d (omega arith)
-                  (comes-for n g s (y i) (x (suc i + d)) law (subst (λ m. g (with s (x m)) ≡ true) end (best .path .route .sink))) in
-          absurd (omega arith))
+      let d : ℕ = k - suc i in
+      let gain : total w (later y i) (suc d) < total w (later x (suc i)) (suc d) =
+      loses-second d i i (omega arith) (omega arith) (λ z. absurd (omega arith)) (λ z. yes′) in
+      let end : k ≡ suc i + d = omega arith in
+      let back : total w (later x (suc i)) (suc d) ≤ total w (later y i) (suc d) =
+      cycle-second n f g w a b s k x y split (best .path .route) i d (omega arith)
+      (comes-for n g s (y i) (x (suc i + d)) law (subst (λ m. g (with s (x m)) ≡ true) end (best .path .route .sink))) in
+      absurd (omega arith))
       (λ (no′ : g (with s (x i)) ≡ false). no′)
       (cases-bool (g (with s (x i))))
 
@@ -122,62 +125,65 @@ module _ (n : ℕ) (f g : Set → Bool) (w a b : ℕ → ℕ) (s : Set) (k : ℕ
   key-first : ℕ → ℕ
   key-first i = total w y (suc i) + (total w x (suc k) - total w x (suc i))
 
+  -- the keys by the second matroid: what the path has brought, with what has still to go
   key-second : ℕ → ℕ
   key-second i = total w x (suc i) + (total w y k - total w y i)
 
+  -- by the first matroid an exchange across pairs falls by these keys: forward it is a shortcut, backward it closes a cycle
   falling-first : Falling f s y (λ i. x (suc i)) k key-first (λ i. i)
   unfolding key-first
   falling-first i j hi hj apart arc = ⊎-elim (λ (z : i ≡ j). absurd (apart z))
       (⊎-elim
-        (λ (l : i < j).
-          let d : ℕ = j - suc i in
-          let there : suc j ≡ suc d + suc i = omega arith in
-          let gain : total w (later y (suc i)) (suc d) < total w (later x (suc i)) (suc d) =
-              loses-first d (k - suc d) (suc i) (omega arith) (omega arith) (λ z. absurd (omega arith))
-                  (λ m z. subst₂ (λ u v. f (with (without s (y u)) (x v)) ≡ true) (same i m z) there arc) in
-          let ty : total w y (suc j) ≡ total w y (suc i) + total w (later y (suc i)) (suc d) = total-between w y (suc i) (suc d) (suc j) (omega arith) in
-          let tx : total w x (suc j) ≡ total w x (suc i) + total w (later x (suc i)) (suc d) = total-between w x (suc i) (suc d) (suc j) (omega arith) in
-          let rest : total w x (suc k) ≡ total w x (suc j) + total w (later x (suc j)) (k - j) = total-between w x (suc j) (k - j) (suc k) (omega arith) in
-          inl (omega arith))
-        (λ (l : j < i).
-          let d : ℕ = i - suc j in
-          let there : i ≡ suc j + d = omega arith in
-          let back : total w (later x (suc j)) (suc d) ≤ total w (later y (suc j)) (suc d) =
-              cycle-first n f g w a b s k x y split (best .path .route) (suc j) d (omega arith)
-                  (subst (λ m. f (with (without s (y m)) (x (suc j))) ≡ true) there arc) in
-          let ty : total w y (suc i) ≡ total w y (suc j) + total w (later y (suc j)) (suc d) = total-between w y (suc j) (suc d) (suc i) (omega arith) in
-          let tx : total w x (suc i) ≡ total w x (suc j) + total w (later x (suc j)) (suc d) = total-between w x (suc j) (suc d) (suc i) (omega arith) in
-          let rest : total w x (suc k) ≡ total w x (suc i) + total w (later x (suc i)) (k - i) = total-between w x (suc i) (k - i) (suc k) (omega arith) in
-          falls _ _ j i (omega arith) l))
+      (λ (l : i < j).
+      let d : ℕ = j - suc i in
+      let there : suc j ≡ suc d + suc i = omega arith in
+      let gain : total w (later y (suc i)) (suc d) < total w (later x (suc i)) (suc d) =
+      loses-first d (k - suc d) (suc i) (omega arith) (omega arith) (λ z. absurd (omega arith))
+      (λ m z. subst₂ (λ u v. f (with (without s (y u)) (x v)) ≡ true) (same i m z) there arc) in
+      let ty : total w y (suc j) ≡ total w y (suc i) + total w (later y (suc i)) (suc d) = total-between w y (suc i) (suc d) (suc j) (omega arith) in
+      let tx : total w x (suc j) ≡ total w x (suc i) + total w (later x (suc i)) (suc d) = total-between w x (suc i) (suc d) (suc j) (omega arith) in
+      let rest : total w x (suc k) ≡ total w x (suc j) + total w (later x (suc j)) (k - j) = total-between w x (suc j) (k - j) (suc k) (omega arith) in
+      inl (omega arith))
+      (λ (l : j < i).
+      let d : ℕ = i - suc j in
+      let there : i ≡ suc j + d = omega arith in
+      let back : total w (later x (suc j)) (suc d) ≤ total w (later y (suc j)) (suc d) =
+      cycle-first n f g w a b s k x y split (best .path .route) (suc j) d (omega arith)
+      (subst (λ m. f (with (without s (y m)) (x (suc j))) ≡ true) there arc) in
+      let ty : total w y (suc i) ≡ total w y (suc j) + total w (later y (suc j)) (suc d) = total-between w y (suc j) (suc d) (suc i) (omega arith) in
+      let tx : total w x (suc i) ≡ total w x (suc j) + total w (later x (suc j)) (suc d) = total-between w x (suc j) (suc d) (suc i) (omega arith) in
+      let rest : total w x (suc k) ≡ total w x (suc i) + total w (later x (suc i)) (k - i) = total-between w x (suc i) (k - i) (suc k) (omega arith) in
+      falls _ _ j i (omega arith) l))
       (cases-order i j)
     where
       same : (i m : ℕ) → suc m ≡ suc i → i ≡ m
       same i m z = omega arith
 
+  -- by the second matroid likewise
   falling-second : Falling g s y x k key-second (λ i. k - i)
   unfolding key-second
   falling-second i j hi hj apart arc = ⊎-elim (λ (z : i ≡ j). absurd (apart z))
       (⊎-elim
-        (λ (l : i < j).
-          let d : ℕ = j - suc i in
-          let there : j ≡ suc i + d = omega arith in
-          let back : total w (later x (suc i)) (suc d) ≤ total w (later y i) (suc d) =
-              cycle-second n f g w a b s k x y split (best .path .route) i d (omega arith)
-                  (subst (λ m. g (with (without s (y i)) (x m)) ≡ true) there arc) in
-          let ty : total w y j ≡ total w y i + total w (later y i) (suc d) = total-between w y i (suc d) j (omega arith) in
-          let tx : total w x (suc j) ≡ total w x (suc i) + total w (later x (suc i)) (suc d) = total-between w x (suc i) (suc d) (suc j) (omega arith) in
-          let rest : total w y k ≡ total w y j + total w (later y j) (k - j) = total-between w y j (k - j) k (omega arith) in
-          falls _ _ (k - j) (k - i) (omega arith) (omega arith))
-        (λ (l : j < i).
-          let d : ℕ = i - suc j in
-          let there : i ≡ suc d + j = omega arith in
-          let gain : total w (later y j) (suc d) < total w (later x (suc j)) (suc d) =
-              loses-second d (k - suc d) j (omega arith) (omega arith)
-                  (λ z. subst (λ m. g (with (without s (y m)) (x j)) ≡ true) there arc) (λ z. absurd (omega arith)) in
-          let ty : total w y i ≡ total w y j + total w (later y j) (suc d) = total-between w y j (suc d) i (omega arith) in
-          let tx : total w x (suc i) ≡ total w x (suc j) + total w (later x (suc j)) (suc d) = total-between w x (suc j) (suc d) (suc i) (omega arith) in
-          let rest : total w y k ≡ total w y i + total w (later y i) (k - i) = total-between w y i (k - i) k (omega arith) in
-          inl (omega arith)))
+      (λ (l : i < j).
+      let d : ℕ = j - suc i in
+      let there : j ≡ suc i + d = omega arith in
+      let back : total w (later x (suc i)) (suc d) ≤ total w (later y i) (suc d) =
+      cycle-second n f g w a b s k x y split (best .path .route) i d (omega arith)
+      (subst (λ m. g (with (without s (y i)) (x m)) ≡ true) there arc) in
+      let ty : total w y j ≡ total w y i + total w (later y i) (suc d) = total-between w y i (suc d) j (omega arith) in
+      let tx : total w x (suc j) ≡ total w x (suc i) + total w (later x (suc i)) (suc d) = total-between w x (suc i) (suc d) (suc j) (omega arith) in
+      let rest : total w y k ≡ total w y j + total w (later y j) (k - j) = total-between w y j (k - j) k (omega arith) in
+      falls _ _ (k - j) (k - i) (omega arith) (omega arith))
+      (λ (l : j < i).
+      let d : ℕ = i - suc j in
+      let there : i ≡ suc d + j = omega arith in
+      let gain : total w (later y j) (suc d) < total w (later x (suc j)) (suc d) =
+      loses-second d (k - suc d) j (omega arith) (omega arith)
+      (λ z. subst (λ m. g (with (without s (y m)) (x j)) ≡ true) there arc) (λ z. absurd (omega arith)) in
+      let ty : total w y i ≡ total w y j + total w (later y j) (suc d) = total-between w y j (suc d) i (omega arith) in
+      let tx : total w x (suc i) ≡ total w x (suc j) + total w (later x (suc j)) (suc d) = total-between w x (suc j) (suc d) (suc i) (omega arith) in
+      let rest : total w y k ≡ total w y i + total w (later y i) (k - i) = total-between w y i (k - i) k (omega arith) in
+      inl (omega arith)))
       (cases-order i j)
 
   module _ (many : Many-exchanges-by-keys-and-one) (first : Matroid n f) (second : Matroid n g) where
@@ -195,15 +201,16 @@ module _ (n : ℕ) (f g : Set → Bool) (w a b : ℕ → ℕ) (s : Set) (k : ℕ
 
     -- a best path leads to a set that both allow, of one element more
     pub augmented : Augmented n f g w s k x y
-    augmented = record
-        { distinct = best-distinct
-        ; first = sym (allowed-same first (exchanged (with s (x 0)) y (λ i. x (suc i)) k) (along s x y k)
-              (λ v h. along-first n f g s k x y (best .path .route) v)) ∙ made-first .0
-        ; second = sym (allowed-same second (exchanged (with s (x k)) y x k) (along s x y k)
-              (λ v h. along-second n f g s k x y (best .path .route) v)) ∙ made-second
-        ; sized = sym (size-same n (exchanged (with s (x 0)) y (λ i. x (suc i)) k) (along s x y k)
-              (λ v h. along-first n f g s k x y (best .path .route) v)) ∙ made-first .1
-        ; gained = along-weighs n f g s k x y (best .path .route) w best-distinct }
+    augmented = record {
+      distinct = best-distinct;
+      first = sym (allowed-same first (exchanged (with s (x 0)) y (λ i. x (suc i)) k) (along s x y k)
+          (λ v h. along-first n f g s k x y (best .path .route) v)) ∙ made-first .0;
+      second = sym (allowed-same second (exchanged (with s (x k)) y x k) (along s x y k)
+          (λ v h. along-second n f g s k x y (best .path .route) v)) ∙ made-second;
+      sized = sym (size-same n (exchanged (with s (x 0)) y (λ i. x (suc i)) k) (along s x y k)
+          (λ v h. along-first n f g s k x y (best .path .route) v)) ∙ made-first .1;
+      gained = along-weighs n f g s k x y (best .path .route) w best-distinct;
+    }
 
 -- Best-augments, given that many exchanges can be made at once
 pub best-augments : Many-exchanges-by-keys-and-one → Best-augments

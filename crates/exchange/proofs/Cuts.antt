@@ -1,12 +1,11 @@
 -- Sequences with a part left out: which elements stay, and what they weigh together.
-use mathlib.Core.Path.{_≡_, refl, ap, sym, subst}
-use mathlib.Core.Bool.{Bool, true, false}
-use mathlib.Core.Logic.{_⊎_, inl, inr, ⊎-elim}
-use Prim.Native.Nat.{ℕ, zero, suc, _+_, _-_, _≤_, _<_}
+use mathlib.Core.Path.{_≡_, refl, ap, subst}
+use mathlib.Core.Logic.{⊎-elim}
+use Prim.Native.Nat.{ℕ, zero, suc, _+_, _≤_, _<_}
 use native.Mathlib.Nat.{add-suc, add-zero, add-comm}
 use native.Mathlib.Omega.{arith}
-use lib.Dec.{eqb, ltb}
-use Rattle.std.proofs.shelf.Tests.{cases-lt, cases-eq, lt-ltb, le-ltb}
+use lib.Dec.{ltb}
+use Rattle.std.proofs.shelf.Tests.{cases-lt}
 use Rattle.sets.specs.Matroid.{pick}
 use Rattle.exchange.specs.Paths.{total}
 
@@ -44,7 +43,7 @@ total-same w x u (suc k) same =
 
 -- a sequence weighs what its two parts weigh
 pub total-parts : (w x : ℕ → ℕ) (p d : ℕ) → total w x (p + d) ≡ total w x p + total w (later x p) d
-total-parts w x p zero = rw add-zero (rw add-zero refl)
+total-parts w x p zero = simp add-zero
 total-parts w x p (suc d) =
     let r : total w x (p + d) ≡ total w x p + total w (later x p) d = total-parts w x p d in
     rw add-suc (omega arith)
@@ -63,10 +62,10 @@ total-cut w x p d zero h =
     subst (λ q. total w (cut x p d) q + total w (later x p) d ≡ total w x (d + q)) z (total-cut-last w x p d)
 total-cut w x p d (suc e) h = ⊎-elim
     (λ (b : p < suc e).
-        let r : total w (cut x p d) e + total w (later x p) d ≡ total w x (d + e) = total-cut w x p d e (omega arith) in
-        let c : w (cut x p d e) ≡ w (x (d + e)) = ap (λ i. w (x i)) (skip-after p d e (omega arith)) in
-        rw add-suc (omega arith))
+    let r : total w (cut x p d) e + total w (later x p) d ≡ total w x (d + e) = total-cut w x p d e (omega arith) in
+    let c : w (cut x p d e) ≡ w (x (d + e)) = ap (λ i. w (x i)) (skip-after p d e (omega arith)) in
+    rw add-suc (omega arith))
     (λ (b : suc e ≤ p).
-        let z : p ≡ suc e = omega arith in
-        subst (λ q. total w (cut x p d) q + total w (later x p) d ≡ total w x (d + q)) z (total-cut-last w x p d))
+    let z : p ≡ suc e = omega arith in
+    subst (λ q. total w (cut x p d) q + total w (later x p) d ≡ total w x (d + q)) z (total-cut-last w x p d))
     (cases-lt p (suc e))

@@ -33,13 +33,13 @@ complete n to c source settled reached d k back h all = record {
 }
 
 -- the order of labels, over plain numbers
-before-trans : (d k e l f m : ℕ) → Before d k e l ≡ true → Before e l f m ≡ true → Before d k f m ≡ true
+pub before-trans : (d k e l f m : ℕ) → Before d k e l ≡ true → Before e l f m ≡ true → Before d k f m ≡ true
 before-trans d k e l f m p q = grind arith
 
 before-more : (d k c : ℕ) → Before d k (d + c) (k + 1) ≡ true
 before-more d k c = grind arith
 
-before-refl : (v m : ℕ) (d k : ℕ → ℕ) → v ≡ m → Before (d v) (k v) (d m) (k m) ≡ true
+pub before-refl : (v m : ℕ) (d k : ℕ → ℕ) → v ≡ m → Before (d v) (k v) (d m) (k m) ≡ true
 before-refl v m d k s = grind arith
 
 before-at : (d k e l f m : ℕ) → e ≡ d → l ≡ k → Before d k f m ≡ true → Before e l f m ≡ true
@@ -51,7 +51,7 @@ before-onto d k e l f m p q h = grind arith
 before-same : (d k e l : ℕ) → e ≡ d → l ≡ k → Before e l d k ≡ true
 before-same d k e l p q = grind arith
 
-before-other : (d k e l : ℕ) → Before d k e l ≡ false → Before e l d k ≡ true
+pub before-other : (d k e l : ℕ) → Before d k e l ≡ false → Before e l d k ≡ true
 before-other d k e l h = grind arith
 
 before-to : (d k e l f m c : ℕ) → f ≡ e → m ≡ l → Before d k (e + c) (l + 1) ≡ true → Before d k (f + c) (m + 1) ≡ true
@@ -66,21 +66,21 @@ first-before d k e m p q = grind arith
 not-better : (t s r b : Bool) → t ≡ true → s ≡ false → (t && not s && (not r || not b)) ≡ false → (r ≡ true) × (b ≡ true)
 not-better t s r b p q h = grind arith
 
-pick-true : {A : Type 0} (b : Bool) (x y z : A) → b ≡ true → z ≡ pick b x y → z ≡ x
+pub pick-true : {A : Type 0} (b : Bool) (x y z : A) → b ≡ true → z ≡ pick b x y → z ≡ x
 pick-true true x y z p q = q
 pick-true false x y z p q = absurd (both-ways false refl p)
 
-pick-false : {A : Type 0} (b : Bool) (x y z : A) → b ≡ false → z ≡ pick b x y → z ≡ y
+pub pick-false : {A : Type 0} (b : Bool) (x y z : A) → b ≡ false → z ≡ pick b x y → z ≡ y
 pick-false true x y z p q = absurd (both-ways true p refl)
 pick-false false x y z p q = q
 
-or-true : (a b c : Bool) → b ≡ true → c ≡ (a || b) → c ≡ true
+pub or-true : (a b c : Bool) → b ≡ true → c ≡ (a || b) → c ≡ true
 or-true a b c p q = grind arith
 
-or-false : (a b c : Bool) → b ≡ false → c ≡ (a || b) → c ≡ a
+pub or-false : (a b c : Bool) → b ≡ false → c ≡ (a || b) → c ≡ a
 or-false a b c p q = grind arith
 
-better-parts : (t s r b : Bool) → (t && not s && (not r || not b)) ≡ true → (t ≡ true) × (s ≡ false) × (r ≡ true → b ≡ false)
+pub better-parts : (t s r b : Bool) → (t && not s && (not r || not b)) ≡ true → (t ≡ true) × (s ≡ false) × (r ≡ true → b ≡ false)
 better-parts true false r true p = (refl, refl, λ q. grind arith)
 better-parts true false r false p = (refl, refl, λ q. refl)
 better-parts true true r b p = absurd (both-ways false refl p)
@@ -230,3 +230,21 @@ module _ (n : ℕ) (to : ℕ → ℕ → Bool) (c : ℕ → ℕ → ℕ) (source
     along = turn-along;
     begun = turn-begun;
   }
+
+-- an element is settled: the set is the old one with it
+pub settles : (settled done : Set) (m : ℕ) → ((j : ℕ) → done j ≡ pick (eqb j m) true (settled j)) → (v : ℕ) → done v ≡ (settled v || eqb v m)
+settles settled done m h v = let x = h v in joins-in (eqb v m) (settled v) (done v) x
+  where
+    joins-in : (e b r : Bool) → r ≡ pick e true b → r ≡ (b || e)
+    joins-in true b r q = grind arith
+    joins-in false b r q = grind arith
+
+-- reached and not settled, taken apart and put together
+pub open-parts : (r s : Bool) → (r && not s) ≡ true → (r ≡ true) × (s ≡ false)
+open-parts r s h = grind arith
+
+pub open-from : (r s : Bool) → r ≡ true → s ≡ false → (r && not s) ≡ true
+open-from r s p q = grind arith
+
+pub none-open : (r s : Bool) → (r && not s) ≡ false → r ≡ true → s ≡ true
+none-open r s h p = grind arith

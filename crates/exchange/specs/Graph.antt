@@ -66,7 +66,19 @@ pub record Changed (e : ℕ → ℕ) (l m : ℕ) (which reached after : Set) (d 
   pub steps : k′ u ≡ pick (which u) l (k u)
   pub backs : back′ u ≡ pick (which u) m (back u)
 
+-- one of the elements below n of a set, of least cost, and of these of fewest steps
+abbrev pub Least : ℕ → Set → (ℕ → ℕ) → (ℕ → ℕ) → ℕ → Type 0
+Least n among d k m =
+    (m < n) × (among m ≡ true) × ((v : ℕ) → v < n → among v ≡ true → Before (d m) (k m) (d v) (k v) ≡ true)
+
 -- labels are small: what a path has cost is at most its steps times the largest weight
 abbrev pub Small-labels : ℕ → (ℕ → ℕ) → (ℕ → ℕ) → Set → (ℕ → ℕ) → (ℕ → ℕ) → ℕ → Type 0
 Small-labels n w a reached d k m =
     (v : ℕ) → v < n → reached v ≡ true → (d v + a v ≤ w v + k v * top) × (k v ≤ m + 1)
+
+-- the elements from which a sink can be reached: the least set that has the sinks and, with the head of an arc, its tail
+pub record Reaching (n : ℕ) (to : ℕ → ℕ → Bool) (sink u : Set) : Type 0 where
+  pub sinks : (x : ℕ) → x < n → sink x ≡ true → u x ≡ true
+  pub backwards : (v x : ℕ) → v < n → x < n → to v x ≡ true → u x ≡ true → u v ≡ true
+  pub least : (t : Set) → ((x : ℕ) → x < n → sink x ≡ true → t x ≡ true) →
+      ((v x : ℕ) → v < n → x < n → to v x ≡ true → t x ≡ true → t v ≡ true) → (x : ℕ) → x < n → u x ≡ true → t x ≡ true

@@ -6,6 +6,7 @@ use Prim.Native.Nat.{ℕ, zero, suc, _+_, _≤_, _<_}
 use Rattle.sets.specs.Matroid.{Set, size, weight, without, with, Matroid}
 use Rattle.matroid.specs.Optimal.{Split, Dual}
 use Rattle.matroid.specs.Exchanges.{among}
+use Rattle.exchange.specs.Graph.{arc, addable, Reaching}
 use Rattle.exchange.specs.Round.{Closed}
 
 -- what the first k elements of a sequence weigh together
@@ -104,3 +105,8 @@ abbrev pub Dual-by-no-path : Type 0
 Dual-by-no-path =
     (n : ℕ) (f g : Set → Bool) (s u : Set) → Matroid n f → Matroid n g → f s ≡ true → g s ≡ true →
     ((k : ℕ) (x y : ℕ → ℕ) → Augmenting n f g s k x y → ⊥) → Leading n f g s u → Dual n f g s u
+
+-- the least set that holds the sinks and, with the head of an arc, its tail is the set of the elements that lead to a sink
+abbrev pub Leading-agrees : Type 0
+Leading-agrees =
+    (n : ℕ) (f g : Set → Bool) (s u : Set) → Reaching n (arc f g s) (addable g s) u → Leading n f g s u

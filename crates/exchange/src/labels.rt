@@ -1,13 +1,13 @@
 // Labels from the sources: by cost and then by steps, the least unsettled label settled first.
 ghost use Prim.Native.Nat.{ℕ, _+_, _-_, _*_, _<_, _≤_};
-ghost use Rattle.exchange.specs.Graph.{at, cost, table, takes, bettered, Changed, Priced, Shortest, Small-labels};
+ghost use Rattle.exchange.specs.Graph.{at, cost, table, takes, bettered, Changed, Priced, Shortest, Small-labels, Least};
 ghost use Rattle.exchange.specs.Round.{top, Before};
 ghost use Rattle.sets.specs.Bits.{marked, row-words};
-ghost use Rattle.sets.specs.Matroid.{pick};
+ghost use Rattle.sets.specs.Matroid.{pick, outside};
 ghost use Rattle.std.specs.Options.{Cases};
 ghost use lib.Dec.{eqb};
 ghost use lib.ListN.{length};
-ghost use mathlib.Core.Bool.{true, false, _&&_, _||_};
+ghost use mathlib.Core.Bool.{true, false, not, _&&_, _||_};
 ghost use mathlib.Core.Path.{_≡_};
 use crate::rows::holds;
 use crate::rows::joins;
@@ -80,5 +80,99 @@ fn relax(
             let cost = arrival(inside, paid, weights, potentials, v, u);
             improve(reached, costs, steps, back, u, cost, step, v);
         }
+    }
+}
+
+// Is the label (d, k) less than the label (e, l)?
+pub fn sooner(d: u32, k: u32, e: u32, l: u32) -> bool
+    ensures { λ r. ⌜ r ≡ not (Before e l d k) ⌝ }
+{
+    d < e || (d == e && k < l)
+}
+
+// The element with the least label of those that are reached and not settled.
+fn nearest(
+    n: usize,
+    reached: &[u32],
+    settled: &[u32],
+    costs: &[u32],
+    steps: &[u32],
+) -> Option<usize>
+    requires { ⌜ row-words n ≤ length (now reached) ⌝ ∗ ⌜ row-words n ≤ length (now settled) ⌝ ∗ ⌜ n ≤ length (now costs) ⌝ ∗ ⌜ n ≤ length (now steps) ⌝ }
+    ensures { λ r. ⌜ Cases r ((v : ℕ) → v < n → outside (marked (now (reached .entry))) (marked (now (settled .entry))) v ≡ false) (λ m. Least n (outside (marked (now (reached .entry))) (marked (now (settled .entry)))) (at (now (costs .entry))) (at (now (steps .entry))) m) ⌝ }
+{
+    let mut least = None;
+    for v in 0..n {
+        if holds(reached, v) && !holds(settled, v) {
+            least = match least {
+                Some(m) if !sooner(costs[v], steps[v], costs[m], steps[m]) => Some(m),
+                _ => Some(v),
+            };
+        }
+    }
+    least
+}
+
+// The first labels: the sources, at no cost and by one step. Nothing is settled.
+fn begin(
+    n: usize,
+    sources: &[u32],
+    settled: &mut [u32],
+    reached: &mut [u32],
+    costs: &mut [u32],
+    steps: &mut [u32],
+)
+    requires rows { ⌜ row-words n ≤ length (now sources) ⌝ ∗ ⌜ row-words n ≤ length (now settled) ⌝ ∗ ⌜ row-words n ≤ length (now reached) ⌝ }
+    requires numbers { ⌜ n ≤ length (now costs) ⌝ ∗ ⌜ n ≤ length (now steps) ⌝ }
+    ensures rows { λ _. ⌜ ((x : ℕ) → x < n → (marked (now (reached .exit)) x ≡ marked (now (sources .entry)) x) × (marked (now (settled .exit)) x ≡ false)) ⌝ }
+    ensures numbers { λ _. ⌜ ((x : ℕ) → x < n → (at (now (costs .exit)) x ≡ 0) × (at (now (steps .exit)) x ≡ 1)) ⌝ }
+{
+    for x in 0..n {
+        put(settled, x, false);
+        put(reached, x, holds(sources, x));
+        costs[x] = 0;
+        steps[x] = 1;
+    }
+}
+
+// Labels all elements that can be reached from the sources: what the way there costs, its steps and the element before.
+// What `settled` holds after is free.
+pub fn label(
+    n: usize,
+    arcs: &[u32],
+    sources: &[u32],
+    set: &[u32],
+    weights: &[u32],
+    potentials: &[u32],
+    settled: &mut [u32],
+    reached: &mut [u32],
+    costs: &mut [u32],
+    steps: &mut [u32],
+    back: &mut [u32],
+)
+    requires sizes { ⌜ n ≤ 600 ⌝ ∗ ⌜ row-words n * n ≤ length (now arcs) ⌝ ∗ ⌜ n ≤ length (now weights) ⌝ ∗ ⌜ n ≤ length (now potentials) ⌝ }
+    requires rows { ⌜ row-words n ≤ length (now sources) ⌝ ∗ ⌜ row-words n ≤ length (now set) ⌝ ∗ ⌜ row-words n ≤ length (now settled) ⌝ ∗ ⌜ row-words n ≤ length (now reached) ⌝ }
+    requires numbers { ⌜ n ≤ length (now costs) ⌝ ∗ ⌜ n ≤ length (now steps) ⌝ ∗ ⌜ n ≤ length (now back) ⌝ }
+    requires priced { ⌜ Priced n (table n (now arcs)) (marked (now set)) (at (now weights)) (at (now potentials)) ⌝ }
+    requires begins { ⌜ ((x : ℕ) → x < n → marked (now sources) x ≡ true → at (now potentials) x ≡ 0) ⌝ }
+    ensures shortest { λ _. ⌜ Shortest n (table n (now (arcs .entry))) (cost (marked (now (set .entry))) (at (now (weights .entry))) (at (now (potentials .entry)))) (marked (now (sources .entry))) (marked (now (reached .exit))) (at (now (costs .exit))) (at (now (steps .exit))) (at (now (back .exit))) ⌝ }
+    ensures small { λ _. ⌜ Small-labels n (at (now (weights .entry))) (at (now (potentials .entry))) (marked (now (reached .exit))) (at (now (costs .exit))) (at (now (steps .exit))) n ⌝ }
+{
+    begin(n, sources, settled, reached, costs, steps);
+    while let Some(v) = nearest(n, reached, settled, costs, steps) {
+        put(settled, v, true);
+        relax(
+            n,
+            arcs,
+            set,
+            weights,
+            potentials,
+            settled,
+            v,
+            reached,
+            costs,
+            steps,
+            back,
+        );
     }
 }

@@ -5,6 +5,7 @@ ghost use Rattle.sets.specs.Bits.{marked, row-words};
 ghost use Rattle.sets.specs.Matroid.{pick};
 ghost use lib.Dec.{eqb};
 ghost use lib.ListN.{length};
+ghost use mathlib.Core.Bool.{_&&_};
 ghost use mathlib.Core.Path.{_≡_};
 use sets::words::contains;
 use sets::words::insert;
@@ -36,4 +37,17 @@ pub fn joins(arcs: &[u32], n: usize, v: usize, u: usize) -> bool
     ensures { λ r. ⌜ r ≡ table n (now (arcs .entry)) v u ⌝ }
 {
     contains(arcs, (n + 31) / 32 * v, u)
+}
+
+// Puts the arc from v to u into the table, or takes it out.
+pub fn join(arcs: &mut [u32], n: usize, v: usize, u: usize, there: bool)
+    requires { ⌜ n ≤ 600 ⌝ ∗ ⌜ row-words n * n ≤ length (now arcs) ⌝ ∗ ⌜ v < n ⌝ ∗ ⌜ u < n ⌝ }
+    ensures { λ _. ⌜ ((i j : ℕ) → i < n → j < n → table n (now (arcs .exit)) i j ≡ pick (eqb i v && eqb j u) there (table n (now (arcs .entry)) i j)) ⌝ }
+{
+    let at = (n + 31) / 32 * v;
+    if there {
+        insert(arcs, at, u);
+    } else {
+        remove(arcs, at, u);
+    }
 }

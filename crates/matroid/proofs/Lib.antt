@@ -7,3 +7,9 @@ pub mod RuleLaws
 pub mod SmallExchanges
 pub mod SmallMatroids
 pub mod TightExchanges
+pub mod Stages
+pub mod WeightReading
+pub mod RuleReading
+pub mod KindLaws
+pub mod RulePlaces
+pub mod FileReading

@@ -3,4 +3,5 @@ pub mod Exchanges
 pub mod Gains
 pub mod Optimal
 pub mod Problem
+pub mod Reading
 pub mod Rules

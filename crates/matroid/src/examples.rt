@@ -1,7 +1,7 @@
 // The theorems used at small matroids on three and four elements. Each function's contract names what is shown there.
 ghost use Rattle.matroid.specs.Examples.{Small-matroids, Small-steps, Small-pairs, Small-exchange, Small-largest, Small-heaviest, Small-signed, Small-gains, Small-closure};
 
-// Two small tests are matroids.
+// Two small rules are matroids.
 pub fn small_matroids() -> u8
     ensures { λ _. ⌜ Small-matroids ⌝ }
 {

@@ -56,7 +56,7 @@ gains {n} {f} {g} mf mg w sets numbers j h =
     let d = signed-is-split n f g w p q (sized-set n sets j) (s .split) in
     let l = d .0 in
     let e = gains-never-rise n f g w (λ x. up (p x) + (l - down (p x))) (λ x. up (q x) + (l - down (q x))) (r .r) (sized-set n sets j) (sized-set n sets (suc j))
-        mf mg (d .1) (r .first) (r .second) (t .split .first) (t .split .second) (t .sized ∙ ap suc (sym (s .sized))) (s .sized ∙ ap suc (sym (r .sized))) in
+    mf mg (d .1) (r .first) (r .second) (t .split .first) (t .split .second) (t .sized ∙ ap suc (sym (s .sized))) (s .sized ∙ ap suc (sym (r .sized))) in
     rw (r .weighs) at e
 
 -- a dual set of a set and of one that agrees with it below n

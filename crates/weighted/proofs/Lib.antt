@@ -1,3 +1,10 @@
 pub mod Chosen
+pub mod Converses
+pub mod Existence
+pub mod LabelsExist
+pub mod Moving
 pub mod Progress
+pub mod Raised
+pub mod Rounds
+pub mod SmallRounds
 pub mod Written

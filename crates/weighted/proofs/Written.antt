@@ -13,7 +13,6 @@ use Rattle.matroid.specs.Optimal.{Signed-split}
 use Rattle.exchange.specs.Round.{State}
 use borrow.Author.Differences.{ints}
 
-
 -- sets that agree with one element more are allowed alike
 pub with-alike : {n : ℕ} {f : Set → Bool} → Matroid n f → (s t : Set) (x : ℕ) → ((v : ℕ) → v < n → t v ≡ s v) → f (with t x) ≡ f (with s x)
 with-alike m s t x e = allowed-same m (with t x) (with s x) (λ v l. ap (λ (b : Bool). b || eqb v x) (e v l))

@@ -44,9 +44,7 @@ fn rise_of(labelled: bool, cost: u32, all: u32) -> u32
 pub fn raise(n: usize, reached: &[u32], costs: &[u32], all: u32, potentials: &mut [u32])
     requires lengths { ⌜ n ≤ 32 * length (now reached) ⌝ ∗ ⌜ n ≤ length (now costs) ⌝ ∗ ⌜ n ≤ length (now potentials) ⌝ }
     requires small { ⌜ ((x : ℕ) → x < n → getD (now potentials) x 0 + all < 2 ^ 32) ⌝ }
-    ensures {
-        λ _. ⌜ ((x : ℕ) → x < n → getD (now (potentials .exit)) x 0 ≡ raised (marked (now (reached .entry))) (at (now (potentials .entry))) (at (now (costs .entry))) all x) ⌝
-    }
+    ensures { λ _. ⌜ ((x : ℕ) → x < n → getD (now (potentials .exit)) x 0 ≡ raised (marked (now (reached .entry))) (at (now (potentials .entry))) (at (now (costs .entry))) all x) ⌝ }
 {
     for x in 0..n {
         potentials[x] += rise_of(contains(reached, 0, x), costs[x], all);
@@ -64,9 +62,7 @@ fn rest_of(weight: u32, first: u32) -> u64
 pub fn write_parts(n: usize, weights: &[u32], potentials: &[u32], j: usize, numbers: &mut [u64])
     requires lengths { ⌜ n ≤ length (now weights) ⌝ ∗ ⌜ n ≤ length (now potentials) ⌝ ∗ ⌜ 2 * ((j + 1) * n) ≤ length (now numbers) ⌝ }
     ensures first { λ _. ⌜ ((x : ℕ) → x < n → first-part n (now (numbers .exit)) j x ≡ pos (at (now (potentials .entry)) x)) ⌝ }
-    ensures second {
-        λ _. ⌜ ((x : ℕ) → x < n → second-part n (now (numbers .exit)) j x ≡ pos (at (now (weights .entry)) x) -ℤ pos (at (now (potentials .entry)) x)) ⌝
-    }
+    ensures second { λ _. ⌜ ((x : ℕ) → x < n → second-part n (now (numbers .exit)) j x ≡ pos (at (now (weights .entry)) x) -ℤ pos (at (now (potentials .entry)) x)) ⌝ }
     ensures rest { λ _. ⌜ Same-but (2 * (j * n)) (2 * n) (now (numbers .entry)) (now (numbers .exit)) ⌝ }
 {
     for x in 0..n {

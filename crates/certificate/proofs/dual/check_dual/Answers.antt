@@ -6,7 +6,7 @@ use Rattle.sets.specs.declared.refusal.Refusal.the-variants.{Dual}
 use Rattle.certificate.specs.Layout.{largest-set, dual-set}
 use Rattle.certificate.specs.Faults.{Joins}
 use Rattle.certificate.specs.Validity.{by-first, by-second}
-use Rattle.certificate.proofs.Offers.{least-offer, no-offer}
+use Rattle.certificate.proofs.LeastOffers.{least-offer, no-offer}
 use Rattle.certificate.proofs.dual.check_dual.Needs as need
 
 pub loop-x-again : need.loop-x-again

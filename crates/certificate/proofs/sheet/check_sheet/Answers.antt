@@ -33,7 +33,7 @@ returns-then-work-row c =
     let w = weight-of (c .args .file .now) in
     let sheet = c .args .sheet .now in
     let words = length (c .args .work .now) in
-    let l : words < work-length n = omega (arith, c .kept-length-state .ensures .exact) in
+    let l : words < work-length n = omega (arith, c .kept-length-state .ensures) in
     let a = first-memory n f g w sheet words (c .in-Continue-sizes .ensures tt .1) l in
     record { answer = a; exact = exactly n f g w sheet words (Err (Short Work)) a }
 
@@ -46,7 +46,7 @@ returns-in-Break-check-parts c =
     let w = weight-of (c .args .file .now) in
     let sheet = c .args .sheet .now in
     let words = length (c .args .work .now) in
-    let l : work-length n ≤ words = omega (arith, c .kept-length-state .ensures .exact) in
+    let l : work-length n ≤ words = omega (arith, c .kept-length-state .ensures) in
     let e = c .in-Break-check-parts .field-0 .0 in
     let a = first-part-fault n f g w sheet words (c .in-Continue-sizes .ensures tt .1) l e (c .in-Break-check-parts .ensures tt) in
     rw (p .1, p .2) (record { answer = a; exact = exactly n f g w sheet words (Err e) a })
@@ -59,7 +59,7 @@ check-parts-requires c κs =
     let e = c .split-at-mut-other .ensures .back-len in
     let h = c .split-at-mut-first-state .ensures .front-len in
     let k = c .split-at-mut-first-state .ensures .back-len in
-    let o = c .kept-length-state .ensures .exact in
+    let o = c .kept-length-state .ensures in
     record {
       usable = (c .pre, (clear-long (c .args .problem .n) (c .args .sheet .now) (c .in-Continue-sizes .ensures tt .1), c .in-Continue-sizes .ensures tt .0));
       lengths = (omega arith, (omega arith, (omega arith, omega arith)));
@@ -73,6 +73,6 @@ returns c =
     let w = weight-of (c .args .file .now) in
     let sheet = c .args .sheet .now in
     let words = length (c .args .work .now) in
-    let l : work-length n ≤ words = omega (arith, c .kept-length-state .ensures .exact) in
+    let l : work-length n ≤ words = omega (arith, c .kept-length-state .ensures) in
     let v = valid-shown n f g w sheet (c .in-Continue-sizes .ensures tt .1) (c .in-Continue-check-parts .ensures tt) in
     record { answer = (c .in-Continue-sizes .ensures tt .0, v, l); exact = (λ _. (v, l), λ _. refl) }

@@ -8,7 +8,7 @@ use Rattle.matroid.specs.Problem.{weight-of}
 use Rattle.certificate.specs.Layout.{part}
 use Rattle.certificate.specs.Faults.{Misjudged}
 use Rattle.certificate.specs.Validity.{by-first, by-second}
-use Rattle.certificate.proofs.Offers.{least-offer, no-offer}
+use Rattle.certificate.proofs.LeastOffers.{least-offer, no-offer}
 use Rattle.certificate.proofs.split.check_numbers.Needs as need
 
 pub loop-x-again : need.loop-x-again

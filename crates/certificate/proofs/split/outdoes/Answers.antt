@@ -1,4 +1,4 @@
-use mathlib.Core.Path.{_≡_, sym, ap, subst, _∙_}
+use mathlib.Core.Path.{_≡_, refl, sym, ap, subst, _∙_}
 use mathlib.Core.Bool.{true, false}
 use Prim.Native.Nat.{ℕ, _+_, _*_, _<_}
 use lib.IntN.{ℤ}
@@ -7,7 +7,7 @@ use mir.Syntax.{w64}
 use mir.Val.{SFits}
 use borrow.Author.Needs.{needs}
 use Rattle.std.proofs.shelf.Signed.{toZ-ofZ}
-use Rattle.certificate.proofs.Judging.{not-less}
+use Rattle.certificate.proofs.Judging.{less, not-less}
 use native.Mathlib.Omega.{arith}
 use borrow.Author.Count.{below-more}
 use Rattle.std.proofs.shelf.Tests.{both-ways, false≢true}
@@ -44,3 +44,18 @@ loop-y-again c =
 pub returns : need.returns
 returns c =
     ((λ e. absurd (false≢true e)), (λ o. absurd (c .loop-y .inv (o .0) (omega arith) (o .2) (o .3) (o .4))))
+
+pub returns-then-can-exchange : need.returns-then-can-exchange
+returns-then-can-exchange c =
+    let set = c .args .set .now in
+    let p : ℕ → ℤ = part (c .args .sheet .now) (c .args .at) in
+    let y = c .loop-y .y in
+    let x = c .args .x in
+    let e : 32 * 0 + y ≡ y = omega arith in
+    let u : SFits w64 (c .number .result) = search needs in
+    let v : SFits w64 (c .number-own .result) = search needs in
+    let h : ltZ (c .number .result) (c .number-own .result) ≡ true = simp toZ-ofZ at (c .if-number-own .taken) in
+    let l : p y <ℤ p x = less (c .number .result) (c .number-own .result) (p y) (p x) h (c .number .ensures) (c .number-own .ensures) in (
+      (λ _. (y, c .loop-y-test .taken, sym (c .contains .ensures ∙ ap (marked set) e) ∙ c .if-contains .taken, l, sym (c .can-exchange .ensures) ∙ c .if-can-exchange .taken)),
+      (λ _. refl),
+    )

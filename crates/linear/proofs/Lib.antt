@@ -1,0 +1,11 @@
+pub mod Modulo
+pub mod Sums
+pub mod Span
+pub mod Inverse
+pub mod Laws
+pub mod DualBasis
+pub mod Growth
+pub mod Steps
+pub mod Insertion
+pub mod Answered
+pub mod Reading
