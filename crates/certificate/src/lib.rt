@@ -9,3 +9,4 @@ pub mod theory;
 
 pub use offers::check;
 pub use sheet::check_sheet;
+pub use sheet::work_length;

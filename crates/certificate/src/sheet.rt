@@ -50,6 +50,14 @@ fn check_parts(
     check_sizes(file, problem, sheet, sizes, set, first_state, second_state)
 }
 
+// How many words of memory the check of a certificate for n offers takes.
+pub fn work_length(n: usize) -> usize
+    requires { ⌜ n ≤ 600 ⌝ }
+    ensures { λ r. ⌜ r ≡ work-length n ⌝ }
+{
+    2 * ((n + 31) / 32) + 2 * kept_length(n)
+}
+
 // Does the certificate prove what it claims of the problem? How many sizes it has, or its first fault. What the lent words
 // hold after is free.
 pub fn check_sheet(
