@@ -1,4 +1,5 @@
 pub mod FileReading
+pub mod Along
 pub mod Gains
 pub mod KindLaws
 pub mod ManyExchanges

@@ -1,0 +1,11 @@
+mod Accepting
+mod Assembly
+mod Bytes
+mod Judging
+mod Rows
+mod SetFaults
+mod Sides
+mod SizeFaults
+mod LeastOffers
+mod Soundness
+mod Validating
