@@ -2,10 +2,10 @@ mod Accepting
 mod Assembly
 mod Bytes
 mod Judging
+mod LeastOffers
 mod Rows
 mod SetFaults
 mod Sides
 mod SizeFaults
-mod LeastOffers
 mod Soundness
 mod Validating

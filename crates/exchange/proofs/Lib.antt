@@ -19,7 +19,7 @@ pub mod Rounds
 pub mod Settling
 pub mod Shortcuts
 pub mod Shorten
-pub mod ShortestLabels
+pub mod CheapestLabels
 pub mod Skips
 pub mod SmallPaths
 pub mod Verdicts

@@ -13,7 +13,7 @@ use Rattle.std.specs.declared.option.Option.the-variants.{Some, None}
 use Rattle.sets.specs.Bits.{marked}
 use Rattle.sets.specs.Matroid.{pick, Set, with, without, both}
 use Rattle.exchange.specs.Round.{top, State, Before, Labels, lost, End, behind, Closed}
-use Rattle.exchange.specs.Graph.{arc, addable, cost, table, Tables, Priced, Shortest, Least, Reaching}
+use Rattle.exchange.specs.Graph.{arc, addable, cost, table, Tables, Priced, Cheapest, Least, Reaching}
 use Rattle.exchange.proofs.Rounds.{addable-from, to-out, to-in, to-sides, from-out, from-in, source-parts, is-end, unreached}
 
 -- a cost that is a difference, put on both sides
@@ -32,7 +32,7 @@ cost-in s w a v u e = ap (λ (b : Bool). pick b (a v - a u) ((w u + a v) - (w v 
 
 module _ (n : ℕ) (f g : Set → Bool) (s : Set) (arcs sources sinks : List ℕ) (holds : Tables n f g s arcs sources sinks)
     (w a : ℕ → ℕ) (reached : Set) (d k back : ℕ → ℕ)
-    (labels : Shortest n (table n arcs) (cost s w a) (marked sources) reached d k back) where
+    (labels : Cheapest n (table n arcs) (cost s w a) (marked sources) reached d k back) where
   -- a source stands in its row
   source-there : (x : ℕ) → x < n → s x ≡ false → f (with s x) ≡ true → marked sources x ≡ true
   source-there x p o h = holds .each-source x p ∙ addable-from f s x o h

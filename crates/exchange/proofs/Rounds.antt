@@ -10,7 +10,7 @@ use Rattle.std.proofs.shelf.Tests.{cases-bool, cases-lt, both-ways, and-parts, 
 use Rattle.sets.specs.Bits.{marked}
 use Rattle.sets.specs.Matroid.{pick, Set, with, without, both}
 use Rattle.exchange.specs.Round.{top, State, Before, Labels, lost, End, behind, Closed}
-use Rattle.exchange.specs.Graph.{arc, addable, cost, table, Tables, Priced, Shortest, Least, Reaching}
+use Rattle.exchange.specs.Graph.{arc, addable, cost, table, Tables, Priced, Cheapest, Least, Reaching}
 
 -- an addable element is outside and allowed, and so the other way round
 addable-parts : (f : Set → Bool) (s : Set) (x : ℕ) → addable f s x ≡ true → (s x ≡ false) × (f (with s x) ≡ true)

@@ -8,7 +8,7 @@ use lib.Dec.{eqb, ltb, leb}
 use Rattle.std.proofs.shelf.Tests.{cases-bool, cases-eq, cases-lt, both-ways, and-parts}
 use Rattle.sets.specs.Matroid.{pick, Set, size}
 use Rattle.exchange.specs.Round.{top, Before}
-use Rattle.exchange.specs.Graph.{Shortest, bettered, Changed}
+use Rattle.exchange.specs.Graph.{Cheapest, bettered, Changed}
 
 -- what holds between two turns
 pub record Going (n : ℕ) (to : ℕ → ℕ → Bool) (c : ℕ → ℕ → ℕ) (source settled reached : Set) (d k back : ℕ → ℕ) : Type 0 where
@@ -24,7 +24,7 @@ pub record Going (n : ℕ) (to : ℕ → ℕ → Bool) (c : ℕ → ℕ → ℕ)
 -- where nothing is left to settle, the labels are complete
 pub complete : (n : ℕ) (to : ℕ → ℕ → Bool) (c : ℕ → ℕ → ℕ) (source settled reached : Set) (d k back : ℕ → ℕ) →
     Going n to c source settled reached d k back → ((v : ℕ) → v < n → reached v ≡ true → settled v ≡ true) →
-    Shortest n to c source reached d k back
+    Cheapest n to c source reached d k back
 complete n to c source settled reached d k back h all = record {
   start = h .start;
   step = λ v u p q r t. h .step v u p q (all v p r) t;

@@ -43,7 +43,7 @@ pub record Priced (n : ℕ) (to : ℕ → ℕ → Bool) (s : Set) (w a : ℕ →
   pub low : (x : ℕ) → x < n → a x ≤ 601 * top
 
 -- labels of a graph, least by cost and then by steps: no arc betters one, and each comes from a source or along an arc
-pub record Shortest (n : ℕ) (to : ℕ → ℕ → Bool) (c : ℕ → ℕ → ℕ) (source reached : Set) (d k back : ℕ → ℕ) : Type 0 where
+pub record Cheapest (n : ℕ) (to : ℕ → ℕ → Bool) (c : ℕ → ℕ → ℕ) (source reached : Set) (d k back : ℕ → ℕ) : Type 0 where
   pub start : (x : ℕ) → x < n → source x ≡ true → (reached x ≡ true) × (d x ≡ 0) × (k x ≡ 1)
   pub step : (v u : ℕ) → v < n → u < n → reached v ≡ true → to v u ≡ true →
       (reached u ≡ true) × (Before (d u) (k u) (d v + c v u) (k v + 1) ≡ true)

@@ -1,6 +1,6 @@
 // Labels from the sources: by cost and then by steps, the least unsettled label settled first.
 ghost use Prim.Native.Nat.{ℕ, _+_, _-_, _*_, _<_, _≤_};
-ghost use Rattle.exchange.specs.Graph.{at, cost, table, takes, bettered, Changed, Priced, Shortest, Small-labels, Least};
+ghost use Rattle.exchange.specs.Graph.{at, cost, table, takes, bettered, Changed, Priced, Cheapest, Small-labels, Least};
 ghost use Rattle.exchange.specs.Round.{top, Before};
 ghost use Rattle.sets.specs.Bits.{marked, row-words};
 ghost use Rattle.sets.specs.Matroid.{pick, outside};
@@ -166,7 +166,7 @@ pub fn label(
     requires numbers { ⌜ n ≤ length (now costs) ⌝ ∗ ⌜ n ≤ length (now steps) ⌝ ∗ ⌜ n ≤ length (now back) ⌝ }
     requires priced { ⌜ Priced n (table n (now arcs)) (marked (now set)) (at (now weights)) (at (now potentials)) ⌝ }
     requires begins { ⌜ ((x : ℕ) → x < n → marked (now sources) x ≡ true → at (now potentials) x ≡ 0) ⌝ }
-    ensures shortest { λ _. ⌜ Shortest n (table n (now (arcs .entry))) (cost (marked (now (set .entry))) (at (now (weights .entry))) (at (now (potentials .entry)))) (marked (now (sources .entry))) (marked (now (reached .exit))) (at (now (costs .exit))) (at (now (steps .exit))) (at (now (back .exit))) ⌝ }
+    ensures cheapest { λ _. ⌜ Cheapest n (table n (now (arcs .entry))) (cost (marked (now (set .entry))) (at (now (weights .entry))) (at (now (potentials .entry)))) (marked (now (sources .entry))) (marked (now (reached .exit))) (at (now (costs .exit))) (at (now (steps .exit))) (at (now (back .exit))) ⌝ }
     ensures small { λ _. ⌜ Small-labels n (at (now (weights .entry))) (at (now (potentials .entry))) (marked (now (reached .exit))) (at (now (costs .exit))) (at (now (steps .exit))) n ⌝ }
 {
     begin(n, sources, settled, reached, costs, steps);

@@ -240,8 +240,8 @@ pub fn can_exchange(
     (state[0] & state[come] & !state[go]) | (state[1] & state[come + 1] & !state[go + 1]) == 0
 }
 
-// A set passes the test just where it has no more of any group than its limit.
-pub fn test_says_limits() -> u8
+// A set is allowed just where it has no more of any group than its limit.
+pub fn allowed_is_within_limits() -> u8
     ensures { λ _. ⌜ Reading-agrees ⌝ }
 {
     0

@@ -9,7 +9,7 @@ pub fn rows_are_a_matroid() -> u8
     0
 }
 
-// The test says the same as the natural reading.
+// A set is allowed just where the natural reading says so.
 pub fn rows_read_naturally() -> u8
     ensures { λ _. ⌜ Rows-natural ⌝ }
 {

@@ -1,5 +1,5 @@
-pub mod FileReading
 pub mod Along
+pub mod FileReading
 pub mod Gains
 pub mod KindLaws
 pub mod ManyExchanges

@@ -90,8 +90,8 @@ pub fn can_exchange(
     contains(state, n * width, x) || contains(state, y * width, x)
 }
 
-// A set passes the test just where each of its offers has a volunteer of its own.
-pub fn test_says_volunteers() -> u8
+// A set is allowed just where each of its offers has a volunteer of its own.
+pub fn allowed_has_volunteers() -> u8
     ensures { λ _. ⌜ Reading-agrees ⌝ }
 {
     0

@@ -9,10 +9,10 @@ use Rattle.std.proofs.shelf.Tests.{cases-eq, both-ways}
 use Rattle.sets.specs.Matroid.{pick, Set, size, with, none, Within}
 use Rattle.sets.proofs.FiniteSets.{least, look-up, size-with, part-as-large}
 use Rattle.exchange.specs.Round.{Before}
-use Rattle.exchange.specs.Graph.{arc, addable, cost, Shortest, bettered, Least}
+use Rattle.exchange.specs.Graph.{arc, addable, cost, Cheapest, bettered, Least}
 use Rattle.exchange.proofs.LeadingExists.{size-all}
 use Rattle.exchange.proofs.Settling.{Going, complete, turn}
-use Rattle.exchange.proofs.ShortestLabels.{labels-of-shortest}
+use Rattle.exchange.proofs.CheapestLabels.{labels-of-cheapest}
 use Rattle.weighted.specs.Steps.{Labels-exist}
 
 -- of elements that pass a test, one of least cost, and of these of fewest steps
@@ -42,9 +42,9 @@ least-label n p d k x h e =
         (cases-eq dv dr)
 
 module _ (n : ℕ) (to : ℕ → ℕ → Bool) (c : ℕ → ℕ → ℕ) (source : Set) where
-  -- shortest labels
+  -- cheapest labels
   abbrev Found : Type 0
-  Found = (reached : Set) × (d : ℕ → ℕ) × (k : ℕ → ℕ) × (back : ℕ → ℕ) × Shortest n to c source reached d k back
+  Found = (reached : Set) × (d : ℕ → ℕ) × (k : ℕ → ℕ) × (back : ℕ → ℕ) × Cheapest n to c source reached d k back
 
   -- before the first turn only the sources are labelled
   begin : Going n to c source none source (λ v. 0) (λ v. 1) (λ v. 0)
@@ -106,12 +106,12 @@ module _ (n : ℕ) (to : ℕ → ℕ → Bool) (c : ℕ → ℕ → ℕ) (source
       all : (p q : Bool) → (p && not q) ≡ false → p ≡ true → q ≡ true
       all p q h l = grind arith
 
-  -- any graph has shortest labels
-  shortest : Found
-  shortest = turns n none source (λ v. 0) (λ v. 1) (λ v. 0) (omega arith) begin
+  -- any graph has cheapest labels
+  cheapest : Found
+  cheapest = turns n none source (λ v. 0) (λ v. 1) (λ v. 0) (omega arith) begin
 
 -- every state has complete labels
 pub labels-exist : Labels-exist
 labels-exist n f g w a loss s state =
-    let r = shortest n (arc f g s) (cost s w a) (addable f s) in
-    (r .0, r .1, r .2, r .3, labels-of-shortest n f g w a loss s state (r .0) (r .1) (r .2) (r .3) (r .4))
+    let r = cheapest n (arc f g s) (cost s w a) (addable f s) in
+    (r .0, r .1, r .2, r .3, labels-of-cheapest n f g w a loss s state (r .0) (r .1) (r .2) (r .3) (r .4))

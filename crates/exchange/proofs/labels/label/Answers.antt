@@ -64,7 +64,7 @@ loop-v-again c =
 pub returns : need.returns
 returns c =
     record {
-      shortest = complete (c .args .n) _ _ _ (marked (c .loop-v .settled)) (marked (c .loop-v .reached)) (at (c .loop-v .costs)) (at (c .loop-v .steps)) (at (c .loop-v .back))
+      cheapest = complete (c .args .n) _ _ _ (marked (c .loop-v .settled)) (marked (c .loop-v .reached)) (at (c .loop-v .costs)) (at (c .loop-v .steps)) (at (c .loop-v .back))
           (c .loop-v .inv .0)
           (λ v p r. none-open (marked (c .loop-v .reached) v) (marked (c .loop-v .settled) v) (c .in-rest .ensures tt v p) r);
       small = λ v p r. let s = c .loop-v .inv .1 v p r in let l = size-le (c .args .n) (marked (c .loop-v .settled)) in (s .0, omega (arith, s .1));

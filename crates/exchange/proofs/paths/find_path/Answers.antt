@@ -69,10 +69,10 @@ returns-then-is-none c =
     let back = at (c .label .last .back) in
     let st = c .pre .state in
     let ls =
-    are-labels n f g s arcs sources sinks holds w a reached d k back (c .label .ensures .shortest)
+    are-labels n f g s arcs sources sinks holds w a reached d k back (c .label .ensures .cheapest)
     (priced n f g s arcs sources sinks holds w a (st .0) (st .1) (st .2) (c .pre .light)) in
     let es =
-    none-ends n f g s arcs sources sinks holds w a reached d k back (c .label .ensures .shortest) (marked (c .dual-set .last .dual))
+    none-ends n f g s arcs sources sinks holds w a reached d k back (c .label .ensures .cheapest) (marked (c .dual-set .last .dual))
     (c .best-end-end .result) (c .is-none .ensures ∙ ap not (c .if-is-none .taken)) (c .best-end-end .ensures) (c .dual-set .ensures) in
     record {
       asked = c .tables-asked .ensures .asked;
@@ -80,7 +80,7 @@ returns-then-is-none c =
       labels = ls;
       small = c .label .ensures .small;
       ends = es;
-      within = ends-within n f g s arcs sources sinks holds w a reached d k back (c .label .ensures .shortest) (c .best-end-end .result) (c .best-end-end .ensures);
+      within = ends-within n f g s arcs sources sinks holds w a reached d k back (c .label .ensures .cheapest) (c .best-end-end .result) (c .best-end-end .ensures);
       best = found n f g w a (st .0) s reached d k back (marked (c .dual-set .last .dual)) (c .best-end-end .result) (rule-matroid (c .args .file .now) n (c .args .first) (c .pre .well .0))
           (rule-matroid (c .args .file .now) n (c .args .second) (c .pre .well .1)) (c .pre .light) (st .1) ls es;
       kept = c .tables-asked .ensures .kept;
@@ -104,10 +104,10 @@ returns-else-is-none c =
     let back = at (c .label .last .back) in
     let st = c .pre .state in
     let ls =
-    are-labels n f g s arcs sources sinks holds w a reached d k back (c .label .ensures .shortest)
+    are-labels n f g s arcs sources sinks holds w a reached d k back (c .label .ensures .cheapest)
     (priced n f g s arcs sources sinks holds w a (st .0) (st .1) (st .2) (c .pre .light)) in
     let es =
-    some-ends n f g s arcs sources sinks holds w a reached d k back (c .label .ensures .shortest) (marked (c .args .dual .now))
+    some-ends n f g s arcs sources sinks holds w a reached d k back (c .label .ensures .cheapest) (marked (c .args .dual .now))
     (c .best-end-end .result) (c .is-none .ensures ∙ ap not (c .if-is-none .left)) (c .best-end-end .ensures) in
     record {
       asked = c .tables-asked .ensures .asked;
@@ -115,7 +115,7 @@ returns-else-is-none c =
       labels = ls;
       small = c .label .ensures .small;
       ends = es;
-      within = ends-within n f g s arcs sources sinks holds w a reached d k back (c .label .ensures .shortest) (c .best-end-end .result) (c .best-end-end .ensures);
+      within = ends-within n f g s arcs sources sinks holds w a reached d k back (c .label .ensures .cheapest) (c .best-end-end .result) (c .best-end-end .ensures);
       best = found n f g w a (st .0) s reached d k back (marked (c .args .dual .now)) (c .best-end-end .result) (rule-matroid (c .args .file .now) n (c .args .first) (c .pre .well .0))
           (rule-matroid (c .args .file .now) n (c .args .second) (c .pre .well .1)) (c .pre .light) (st .1) ls es;
       kept = c .tables-asked .ensures .kept;

@@ -32,10 +32,11 @@ loss-risen-requires c κs =
     let long = c .find-path-outcome .kept .costs in
     record {
       within = (omega (arith, b, weights), (omega (arith, b, potentials), omega (arith, b, costs, long)));
-      small =
-          (c .pre .light t b,
-           end-small (at (c .find-path-outcome .last .costs) t) (at (c .args .potentials .now) t) (at (c .args .weights .now) t)
-           (at (c .find-path-outcome .last .steps) t) (c .args .n) (s .0) (s .1) (c .pre .sizes .0) (c .pre .light t b));
+      small = (
+        c .pre .light t b,
+        end-small (at (c .find-path-outcome .last .costs) t) (at (c .args .potentials .now) t) (at (c .args .weights .now) t)
+            (at (c .find-path-outcome .last .steps) t) (c .args .n) (s .0) (s .1) (c .pre .sizes .0) (c .pre .light t b),
+      );
     }
 
 pub returns-in-Some : need.returns-in-Some

@@ -1,4 +1,4 @@
--- Shortest labels of the exchange graph are complete labels of a round.
+-- Cheapest labels of the exchange graph are complete labels of a round.
 use mathlib.Core.Path.{_≡_, ap, subst}
 use mathlib.Core.Bool.{Bool, true, false, _&&_, not}
 use mathlib.Core.Logic.{⊎-elim}
@@ -7,7 +7,7 @@ use native.Mathlib.Omega.{arith}
 use Rattle.std.proofs.shelf.Tests.{cases-lt, both-ways}
 use Rattle.sets.specs.Matroid.{pick, Set, without, with}
 use Rattle.exchange.specs.Round.{State, Before, Labels}
-use Rattle.exchange.specs.Graph.{arc, addable, cost, Shortest}
+use Rattle.exchange.specs.Graph.{arc, addable, cost, Cheapest}
 
 -- the order of labels stays where both costs grow by the same
 before-lifted : (d k e l p q : ℕ) → q ≤ p → Before d k (e + (p - q)) l ≡ true → Before (d + q) k (e + p) l ≡ true
@@ -72,16 +72,16 @@ module _ (n : ℕ) (f g : Set → Bool) (w a : ℕ → ℕ) (loss : ℕ) (s : Se
   unfolding cost
   cost-into y x h = ap (λ (p : Bool). pick p (a y - a x) ((w x + a y) - (w y + a x))) h
 
-  module _ (reached : Set) (d k back : ℕ → ℕ) (short : Shortest n (arc f g s) (cost s w a) (addable f s) reached d k back) where
+  module _ (reached : Set) (d k back : ℕ → ℕ) (short : Cheapest n (arc f g s) (cost s w a) (addable f s) reached d k back) where
     -- an element of the set is no source, so it has a predecessor
     inner-steps : (y : ℕ) → y < n → s y ≡ true → reached y ≡ true → 1 < k y
     inner-steps y h held r = ⊎-elim (λ (l : 1 < k y). l)
         (λ (l : k y ≤ 1). absurd (both-ways (s y) (addable-tells y (short .begun y h r l .0) .0) held))
         (cases-lt 1 (k y))
 
-    -- shortest labels of the exchange graph are complete labels
-    pub labels-of-shortest : Labels n f g w a s reached d k back
-    labels-of-shortest = record {
+    -- cheapest labels of the exchange graph are complete labels
+    pub labels-of-cheapest : Labels n f g w a s reached d k back
+    labels-of-cheapest = record {
       start = λ x h out source. short .start x h (addable-from x out source);
       out = λ x y hx hy out held r arc.
           let p = short .step x y hx hy r (arc-out x y out held arc) in (
