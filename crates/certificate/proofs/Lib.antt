@@ -9,3 +9,4 @@ mod SizeFaults
 mod LeastOffers
 mod Soundness
 mod Validating
+mod Unique
