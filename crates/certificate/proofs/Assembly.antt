@@ -44,6 +44,7 @@ module _ (n : ℕ) (f g : Set → Bool) (w : ℕ → ℕ) (sheet : List ℕ) (wo
 
   -- with enough memory the first fault of the parts is
   module _ (clear : Clear (Byte-fault n sheet)) (enough : work-length n ≤ words) where
+    -- with clean bytes and enough memory, faults begin with the largest set
     behind-memory : (b : Stage) (q : ℕ) (d : Refusal) → Fault n f g w sheet words b q d → 2 ≤ turn b
     behind-memory fault.bytes q d z = absurd (clear q d z)
     behind-memory fault.memory q d z = absurd (let l = z .0 in omega arith)
@@ -52,6 +53,7 @@ module _ (n : ℕ) (f g : Set → Bool) (w : ℕ → ℕ) (sheet : List ℕ) (wo
     behind-memory (fault.sized k) q d z = let l = z .0 in omega arith
     behind-memory (fault.numbers k) q d z = let l = z .0 in omega arith
 
+    -- with a good largest set they begin with the dual set
     behind-largest : Clear (Set-fault n f g (count n sheet) (largest-set n sheet)) → (b : Stage) (q : ℕ) (d : Refusal) →
         Fault n f g w sheet words b q d → 3 ≤ turn b
     behind-largest h fault.bytes q d z = absurd (clear q d z)
@@ -61,6 +63,7 @@ module _ (n : ℕ) (f g : Set → Bool) (w : ℕ → ℕ) (sheet : List ℕ) (wo
     behind-largest h (fault.sized k) q d z = let l = z .0 in omega arith
     behind-largest h (fault.numbers k) q d z = let l = z .0 in omega arith
 
+    -- with a good dual set and good sizes below m they begin with the set of size m
     behind-sizes : Clear (Set-fault n f g (count n sheet) (largest-set n sheet)) → Clear (Dual-fault n f g (largest-set n sheet) (dual-set n sheet)) →
         (m : ℕ) → All-right n f g w sheet m → (b : Stage) (q : ℕ) (d : Refusal) → Fault n f g w sheet words b q d → 2 + 2 * m ≤ turn b
     behind-sizes h k m right fault.bytes q d z = absurd (clear q d z)
@@ -72,6 +75,7 @@ module _ (n : ℕ) (f g : Set → Bool) (w : ℕ → ℕ) (sheet : List ℕ) (wo
     behind-sizes h k m right (fault.numbers j) q d z =
         ⊎-elim (λ (l : j < m). absurd (right j l (z .0) .1 q d z)) (λ (l : m ≤ j). omega arith) (cases-lt j m)
 
+    -- and with a good set of size m, with its numbers
     behind-set : Clear (Set-fault n f g (count n sheet) (largest-set n sheet)) → Clear (Dual-fault n f g (largest-set n sheet) (dual-set n sheet)) →
         (m : ℕ) → All-right n f g w sheet m → Clear (Sized-fault n f g sheet m) → (b : Stage) (q : ℕ) (d : Refusal) → Fault n f g w sheet words b q d → 3 + 2 * m ≤ turn b
     behind-set h k m right s fault.bytes q d z = absurd (clear q d z)
@@ -89,6 +93,7 @@ module _ (n : ℕ) (f g : Set → Bool) (w : ℕ → ℕ) (sheet : List ℕ) (wo
     behind-set h k m right s (fault.numbers j) q d z =
         ⊎-elim (λ (l : j < m). absurd (right j l (z .0) .1 q d z)) (λ (l : m ≤ j). omega arith) (cases-lt j m)
 
+    -- the first fault of the parts is the first of all
     pub first-part-fault : (e : Refusal) → Parts-wrong n f g w sheet e → First-fault (Fault n f g w sheet words) e
     first-part-fault e (inl h) = (fault.largest, h, behind-memory)
     first-part-fault e (inr (c, inl h)) = (fault.dual, h, behind-largest c)

@@ -30,6 +30,7 @@ outbids-outdoes n f p s x m o = (
       (o .4),
 )
 
+-- to outdo is to outbid
 pub outdoes-outbids : (n : ℕ) (f : Set → Bool) (p : ℕ → ℤ) (s : Set) (x : ℕ) → Outdoes n f p s x → Outbids n f p s x
 outdoes-outbids n f p s x o = (o .0, o .1, o .2, o .3, inr (o .4))
 
@@ -44,6 +45,7 @@ module _ (n : ℕ) (f g : Set → Bool) (w : ℕ → ℕ) (p q : ℕ → ℤ) (s
   chosen-right i e (first o b) = both-ways (s x) o i
   chosen-right i e (second o b) = both-ways (s x) o i
 
+  -- so a chosen offer whose sum is right is not in fault
   pub judged-chosen : s x ≡ true → p x +ℤ q x ≡ pos (w x) → Decides false (Misjudged n f g w p q s x)
   judged-chosen i e = (λ h. absurd (false≢true h), λ m. absurd (chosen-right i e m))
 
@@ -57,6 +59,7 @@ module _ (n : ℕ) (f g : Set → Bool) (w : ℕ → ℕ) (p q : ℕ → ℤ) (s
   left-second mf mg e no-first (first o b) = absurd (no-first (outbids-outdoes n f p s x mf b))
   left-second mf mg e no-first (second o b) = outbids-outdoes n g q s x mg b
 
+  -- an offer that the first rule leaves is in fault where it outdoes a chosen one by the second
   pub judged-second : Matroid n f → Matroid n g → s x ≡ false → p x +ℤ q x ≡ pos (w x) → (Outdoes n f p s x → ⊥) → (r : Bool) →
       Decides r (Outdoes n g q s x) → Decides r (Misjudged n f g w p q s x)
   judged-second mf mg o e no-first r d =

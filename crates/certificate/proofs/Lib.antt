@@ -9,3 +9,4 @@ mod Sides
 mod SizeFaults
 mod Soundness
 mod Validating
+mod Unique

@@ -35,12 +35,15 @@ pub allowed-loaded : (n : ℕ) (f : Set → Bool) (words bytes : List ℕ) (at :
 allowed-loaded n f words bytes at m h = allowed-same m (marked words) (row bytes at) (loaded-offer n words bytes at h)
 
 module _ (n : ℕ) (f g : Set → Bool) (k : ℕ) (s : Set) where
+  -- a set of another size is refused at place 0
   pub by-size : (size n s ≡ k → ⊥) → Earliest (Set-fault n f g k s) (Refused k false)
   by-size h = (0, wrong-size h, λ q d _. omega arith)
 
+  -- so is one that the first rule refuses
   pub by-first-rule : f s ≡ false → Earliest (Set-fault n f g k s) (Refused k false)
   by-first-rule h = (0, first-refuses h, λ q d _. omega arith)
 
+  -- one that the second rule refuses, and nothing else does, is refused at place 1
   pub by-second-rule : size n s ≡ k → f s ≡ true → g s ≡ false → Earliest (Set-fault n f g k s) (Refused k true)
   by-second-rule c e h = (1, second-refuses h, later)
     where
@@ -49,6 +52,7 @@ module _ (n : ℕ) (f g : Set → Bool) (k : ℕ) (s : Set) where
       later q d (first-refuses o) = absurd (both-ways (f s) o e)
       later q d (second-refuses o) = omega arith
 
+  -- a set of its size that both rules allow has no fault
   pub no-set-fault : size n s ≡ k → f s ≡ true → g s ≡ true → Clear (Set-fault n f g k s)
   no-set-fault c e h q d (wrong-size o) = o c
   no-set-fault c e h q d (first-refuses o) = both-ways (f s) o e

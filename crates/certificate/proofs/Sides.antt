@@ -19,6 +19,7 @@ Sided n inner s u m x =
 other-side : (a b inner : Bool) → (b ≡ inner → ⊥) → (a && pick inner b (not b)) ≡ false
 other-side a b inner h = elim inner as (λ i. (b ≡ i → ⊥) → (a && pick i b (not b)) ≡ false) [ true ↦ λ k. grind arith | false ↦ λ k. grind arith ] h
 
+-- an offer of this side
 this-side : (a b inner : Bool) → b ≡ inner → (a && pick inner b (not b)) ≡ a
 this-side a b inner h = elim inner as (λ i. b ≡ i → (a && pick i b (not b)) ≡ a) [ true ↦ λ k. grind arith | false ↦ λ k. grind arith ] h
 
@@ -64,6 +65,7 @@ differ true false h e = false≢true (sym e)
 differ false true h e = false≢true e
 differ false false h e = false≢true h
 
+-- and where they do not differ they are equal
 pub agree : (a b : Bool) → not (Bool·beq a b) ≡ false → a ≡ b
 agree true true h = refl
 agree true false h = absurd (false≢true (sym h))
@@ -76,6 +78,7 @@ module _ (f g : Set → Bool) (s u : Set) (x : ℕ) where
   never-joins i (within a o h) = both-ways (s x) o i
   never-joins i (beyond a o h) = both-ways (s x) o i
 
+  -- so it is not in fault
   pub joins-chosen : s x ≡ true → Decides false (Joins f g s u x)
   joins-chosen i = (λ h. absurd (false≢true h), λ j. absurd (never-joins i j))
 
@@ -84,12 +87,15 @@ module _ (f g : Set → Bool) (s u : Set) (x : ℕ) where
   by-inner i (within a o h) = h
   by-inner i (beyond a o h) = absurd (both-ways (u x) a i)
 
+  -- inside of the dual set the first rule decides
   pub joins-within : u x ≡ true → s x ≡ false → (r : Bool) → r ≡ f (with (both s u) x) → Decides r (Joins f g s u x)
   joins-within i o r e = (λ h. within i o (sym e ∙ h), λ j. e ∙ by-inner i j)
 
+  -- the same outside, by the second rule
   by-outer : u x ≡ false → Joins f g s u x → g (with (outside s u) x) ≡ true
   by-outer i (within a o h) = absurd (both-ways (u x) i a)
   by-outer i (beyond a o h) = h
 
+  -- outside of the dual set the second rule decides
   pub joins-beyond : u x ≡ false → s x ≡ false → (r : Bool) → r ≡ g (with (outside s u) x) → Decides r (Joins f g s u x)
   joins-beyond i o r e = (λ h. beyond i o (sym e ∙ h), λ j. e ∙ by-outer i j)

@@ -34,9 +34,11 @@ misjudged-along n f g w p q s t x mf mg l e (first o b) = first (e x l ∙ o) (o
 misjudged-along n f g w p q s t x mf mg l e (second o b) = second (e x l ∙ o) (outbids-along n g q s t x mg e b)
 
 module _ (n : ℕ) (f g : Set → Bool) (w : ℕ → ℕ) (sheet : List ℕ) (k : ℕ) (some : 1 ≤ k) (most : k ≤ count n sheet) where
+  -- a set with no fault, at its place in the bytes
   pub right-set : (at : ℕ) → at ≡ row-at n (k + 1) → Clear (Set-fault n f g k (row sheet at)) → Clear (Sized-fault n f g sheet k)
   right-set at e h p d z = h p d (subst (λ (a : ℕ). Set-fault n f g k (row sheet a) p d) (sym e) (z .2))
 
+  -- a set with a first fault, at its place in the bytes
   pub wrong-set : (at : ℕ) (d : Refusal) → at ≡ row-at n (k + 1) → Earliest (Set-fault n f g k (row sheet at)) d → Wrong n f g w sheet k d
   wrong-set at d e h =
       let z = subst (λ (a : ℕ). Earliest (Set-fault n f g k (row sheet a)) d) e h in
@@ -55,6 +57,7 @@ module _ (n : ℕ) (f g : Set → Bool) (w : ℕ → ℕ) (sheet : List ℕ) (k 
     ),
   )
 
+  -- and back from the bytes to the loaded set
   back : Matroid n f → Matroid n g → (at : ℕ) → at ≡ row-at n (k + 1) → (s : Set) → ((v : ℕ) → v < n → s v ≡ row sheet at v) → (x : ℕ) (d : Refusal) →
       Numbers-fault n f g w sheet k x d → Split-fault n f g w (part sheet (at + row-bytes n)) (part sheet (at + row-bytes n + 8)) k s x d
   back mf mg at e s loaded x d z =
@@ -64,10 +67,12 @@ module _ (n : ℕ) (f g : Set → Bool) (w : ℕ → ℕ) (sheet : List ℕ) (k 
         misjudged-along n f g w (part sheet (at + row-bytes n)) (part sheet (at + row-bytes n + 8)) (row sheet at) s x mf mg (y .0) loaded (y .2),
       )
 
+  -- numbers with no fault
   pub right-numbers : Matroid n f → Matroid n g → (at : ℕ) → at ≡ row-at n (k + 1) → (s : Set) → ((v : ℕ) → v < n → s v ≡ row sheet at v) →
       Clear (Split-fault n f g w (part sheet (at + row-bytes n)) (part sheet (at + row-bytes n + 8)) k s) → Clear (Numbers-fault n f g w sheet k)
   right-numbers mf mg at e s loaded h x d z = h x d (back mf mg at e s loaded x d z)
 
+  -- numbers with a first fault
   pub wrong-numbers : Matroid n f → Matroid n g → (at : ℕ) → at ≡ row-at n (k + 1) → (s : Set) → ((v : ℕ) → v < n → s v ≡ row sheet at v) → (d : Refusal) →
       Earliest (Split-fault n f g w (part sheet (at + row-bytes n)) (part sheet (at + row-bytes n + 8)) k s) d → Earliest (Numbers-fault n f g w sheet k) d
   wrong-numbers mf mg at e s loaded d h =

@@ -39,6 +39,7 @@ equal-numbers a b h =
 pub not-refused : (b : Bool) → (b ≡ false → ⊥) → b ≡ true
 not-refused b h = ⊎-elim (λ (e : b ≡ true). e) (λ (e : b ≡ false). absurd (h e)) (cases-bool b)
 
+-- what is not true is false
 not-allowed : (b : Bool) → (b ≡ true → ⊥) → b ≡ false
 not-allowed b h = ⊎-elim (λ (e : b ≡ true). absurd (h e)) (λ (e : b ≡ false). e) (cases-bool b)
 
@@ -54,6 +55,7 @@ clear-long n sheet h =
     (cases-lt (needed n sheet) (length sheet)))
     (cases-lt (length sheet) (needed n sheet))
 
+-- and clean rows
 clear-clean : (n : ℕ) (sheet : List ℕ) → Clear (Byte-fault n sheet) → (i : ℕ) → i < count n sheet + 2 → Clean n sheet (row-at n i)
 clear-clean n sheet h i l =
     let long = clear-long n sheet h in
@@ -66,6 +68,7 @@ clear-clean n sheet h i l =
     }
 
 module _ (n : ℕ) (f g : Set → Bool) (w : ℕ → ℕ) (sheet : List ℕ) where
+  -- the dual set of a certificate with no fault shows what it should
   dual-shown : Clear (Set-fault n f g (count n sheet) (largest-set n sheet)) → Clear (Dual-fault n f g (largest-set n sheet) (dual-set n sheet)) →
       Dual n f g (largest-set n sheet) (dual-set n sheet)
   dual-shown h k =
@@ -79,6 +82,7 @@ module _ (n : ℕ) (f g : Set → Bool) (w : ℕ → ℕ) (sheet : List ℕ) whe
         full-out = λ x l i o. not-allowed (g (with (outside s u) x)) (λ e. k x (refusal.Dual x) (l, refl, beyond i o e));
       }
 
+  -- the set of each size has that size
   size-shown : (k : ℕ) → 1 ≤ k → k ≤ count n sheet → Clear (Sized-fault n f g sheet k) → size n (sized-set n sheet k) ≡ k
   size-shown k a b h =
       ⊎-elim
@@ -86,6 +90,7 @@ module _ (n : ℕ) (f g : Set → Bool) (w : ℕ → ℕ) (sheet : List ℕ) whe
       (λ (e : size n (sized-set n sheet k) ≡ k → ⊥). absurd (h 0 (Refused k false) (a, b, wrong-size e)))
       (cases-eq (size n (sized-set n sheet k)) k)
 
+  -- the numbers of each size show what they should
   split-shown : (k : ℕ) → 1 ≤ k → k ≤ count n sheet → Clear (Sized-fault n f g sheet k) → Clear (Numbers-fault n f g w sheet k) →
       Signed-split n f g w (first-part n sheet k) (second-part n sheet k) (sized-set n sheet k)
   split-shown k a b h z =
@@ -119,25 +124,30 @@ module _ (n : ℕ) (f g : Set → Bool) (w : ℕ → ℕ) (sheet : List ℕ) whe
 
   -- a valid certificate
   module _ (v : Valid n f g w sheet) where
+    -- its bytes have no fault
     no-byte : Clear (Byte-fault n sheet)
     no-byte p e (cut l) = let o = v .long in omega arith
     no-byte p e (longer l) = let o = v .long in omega arith
     no-byte p e (fault.stray i j l m a b t) = both-ways (row sheet (row-at n i) j) (v .clean i l .clear j a b) t
 
+    -- its largest set has none
     no-largest : Clear (Set-fault n f g (count n sheet) (largest-set n sheet))
     no-largest p e (wrong-size o) = o refl
     no-largest p e (first-refuses o) = both-ways (f (largest-set n sheet)) o (v .dual .first)
     no-largest p e (second-refuses o) = both-ways (g (largest-set n sheet)) o (v .dual .second)
 
+    -- its dual set has none
     no-join : (x : ℕ) → x < n → Joins f g (largest-set n sheet) (dual-set n sheet) x → ⊥
     no-join x l (within i o h) = both-ways (f (with (both (largest-set n sheet) (dual-set n sheet)) x)) (v .dual .full-in x l i o) h
     no-join x l (beyond i o h) = both-ways (g (with (outside (largest-set n sheet) (dual-set n sheet)) x)) (v .dual .full-out x l i o) h
 
+    -- the sets of its sizes have none
     no-sized : (k : ℕ) → Clear (Sized-fault n f g sheet k)
     no-sized k p e (a, b, wrong-size o) = o (v .sized k a b)
     no-sized k p e (a, b, first-refuses o) = both-ways (f (sized-set n sheet k)) o (v .split k a b .first)
     no-sized k p e (a, b, second-refuses o) = both-ways (g (sized-set n sheet k)) o (v .split k a b .second)
 
+    -- the numbers of its sizes have none
     no-numbers : (k : ℕ) → Clear (Numbers-fault n f g w sheet k)
     no-numbers k x e (a, b, (l, r, unequal h)) = h (v .split k a b .parts x l)
     no-numbers k x e (a, b, (l, r, first o (y, yl, i, t, inl h))) = clashℤ t (v .split k a b .add-first y x yl l i o h)
@@ -145,6 +155,7 @@ module _ (n : ℕ) (f g : Set → Bool) (w : ℕ → ℕ) (sheet : List ℕ) whe
     no-numbers k x e (a, b, (l, r, second o (y, yl, i, t, inl h))) = clashℤ t (v .split k a b .add-second y x yl l i o h)
     no-numbers k x e (a, b, (l, r, second o (y, yl, i, t, inr h))) = clashℤ t (v .split k a b .exchange-second y x yl l i o h)
 
+    -- it has no fault at all, with enough memory
     pub no-fault : (words : ℕ) → work-length n ≤ words → (b : Stage) (p : ℕ) (e : Refusal) → Fault n f g w sheet words b p e → ⊥
     no-fault words h fault.bytes p e z = no-byte p e z
     no-fault words h fault.memory p e z = let l = z .0 in omega arith

@@ -7,7 +7,7 @@ use Prim.Native.Nat.{ℕ, _≤_}
 use Rattle.sets.specs.Matroid.{Set, size, weight, Matroid}
 use Rattle.sets.specs.declared.refusal.Refusal.{Refusal}
 use Rattle.certificate.specs.Layout.{largest-set, sized-set, count}
-use Rattle.certificate.specs.Faults.{Stage, Fault}
+use Rattle.certificate.specs.Faults.{Stage, Fault, First-fault}
 use Rattle.certificate.specs.Validity.{Valid, work-length}
 
 -- the largest set is one that both rules allow, and none that both allow is larger
@@ -30,3 +30,9 @@ Faultless-is-valid =
     (n : ℕ) (f g : Set → Bool) (w : ℕ → ℕ) (sheet : List ℕ) (words : ℕ) →
     (Valid n f g w sheet → work-length n ≤ words → (b : Stage) (p : ℕ) (e : Refusal) → Fault n f g w sheet words b p e → ⊥) ×
     (((b : Stage) (p : ℕ) (e : Refusal) → Fault n f g w sheet words b p e → ⊥) → Valid n f g w sheet × (work-length n ≤ words))
+
+-- there is one first fault: two refusals that are both the first are the same
+abbrev pub One-first-fault : Type 0
+One-first-fault =
+    (n : ℕ) (f g : Set → Bool) (w : ℕ → ℕ) (sheet : List ℕ) (words : ℕ) (d e : Refusal) → 1 ≤ n →
+    First-fault (Fault n f g w sheet words) d → First-fault (Fault n f g w sheet words) e → d ≡ e
