@@ -8,5 +8,5 @@ mod SetFaults
 mod Sides
 mod SizeFaults
 mod Soundness
-mod Validating
 mod Unique
+mod Validating

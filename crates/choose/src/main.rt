@@ -13,7 +13,9 @@ mod report;
 
 // Enough lent memory for 600 offers.
 const SETS: usize = 45_150;
+
 const NUMBERS: usize = 720_000;
+
 const WORK: usize = 140_000;
 
 // How many offers the file says there are.
@@ -43,7 +45,13 @@ fn answer(rt: &LibcRuntime, file: &[u8], sheet: Option<&str>) -> Result<bool, An
             report::show(&mut out, file, n, size, sets.as_slice())?;
             out.flush()?;
             if let Some(name) = sheet {
-                let bytes = report::sheet(rt.alloc(), n, size, sets.as_slice(), numbers.as_slice())?;
+                let bytes = report::sheet(
+                    rt.alloc(),
+                    n,
+                    size,
+                    sets.as_slice(),
+                    numbers.as_slice(),
+                )?;
                 fs::write(rt, name, bytes.as_slice())?;
             }
             Ok(true)
@@ -58,10 +66,22 @@ fn answer(rt: &LibcRuntime, file: &[u8], sheet: Option<&str>) -> Result<bool, An
 }
 
 fn help(rt: &LibcRuntime) -> io::Result<()> {
-    println!(rt, "choose OFFERS [SHEET]   choose among the offers of a file under its two rules: the weight of a heaviest")?;
-    println!(rt, "                        choice of every size, a largest choice, and the set U that proves it largest;")?;
-    println!(rt, "                        with SHEET the proofs for all sizes are written to that file")?;
-    println!(rt, "choose                  choose for a built-in festival of twenty offers")
+    println!(
+        rt,
+        "choose OFFERS [SHEET]   choose among the offers of a file under its two rules: the weight of a heaviest"
+    )?;
+    println!(
+        rt,
+        "                        choice of every size, a largest choice, and the set U that proves it largest;"
+    )?;
+    println!(
+        rt,
+        "                        with SHEET the proofs for all sizes are written to that file"
+    )?;
+    println!(
+        rt,
+        "choose                  choose for a built-in festival of twenty offers"
+    )
 }
 
 // Goes by the arguments: a file of offers and where to write the proofs, or none for the built-in festival.

@@ -47,7 +47,13 @@ fn list<W: Write>(out: &mut W, name: &str, n: usize, sets: &[u8], at: usize) -> 
 }
 
 // The weight of each size, a largest set, and its dual set.
-pub fn show<W: Write>(out: &mut W, file: &[u8], n: usize, size: usize, sets: &[u8]) -> io::Result<()> {
+pub fn show<W: Write>(
+    out: &mut W,
+    file: &[u8],
+    n: usize,
+    size: usize,
+    sets: &[u8],
+) -> io::Result<()> {
     let row = n.min(600).div_ceil(8);
     for j in 0..size.min(600) {
         let k = j + 1;
@@ -67,7 +73,12 @@ fn add_row(bytes: &mut Vec<u8>, sets: &[u8], from: usize, to: usize) -> Result<(
 }
 
 // Adds the numbers from `from` to `to`, the low byte first, as far as they go.
-fn add_numbers(bytes: &mut Vec<u8>, numbers: &[u64], from: usize, to: usize) -> Result<(), AllocError> {
+fn add_numbers(
+    bytes: &mut Vec<u8>,
+    numbers: &[u64],
+    from: usize,
+    to: usize,
+) -> Result<(), AllocError> {
     for p in from..to {
         if p < numbers.len() {
             bytes.extend_from_slice(&numbers[p].to_le_bytes())?;
@@ -77,7 +88,13 @@ fn add_numbers(bytes: &mut Vec<u8>, numbers: &[u64], from: usize, to: usize) -> 
 }
 
 // The certificate: the largest set, its dual set, and for each size its set and the two numbers of each offer.
-pub fn sheet(heap: Global, n: usize, size: usize, sets: &[u8], numbers: &[u64]) -> Result<Vec<u8>, AllocError> {
+pub fn sheet(
+    heap: Global,
+    n: usize,
+    size: usize,
+    sets: &[u8],
+    numbers: &[u64],
+) -> Result<Vec<u8>, AllocError> {
     let n = n.min(600);
     let row = n.div_ceil(8);
     let mut bytes = Vec::new(heap);

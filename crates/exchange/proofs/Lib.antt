@@ -4,6 +4,7 @@ pub mod BestPaths
 pub mod Bounds
 pub mod Cells
 pub mod Chains
+pub mod CheapestLabels
 pub mod Counting
 pub mod Cuts
 pub mod Cycles
@@ -19,7 +20,6 @@ pub mod Rounds
 pub mod Settling
 pub mod Shortcuts
 pub mod Shorten
-pub mod CheapestLabels
 pub mod Skips
 pub mod SmallPaths
 pub mod Verdicts

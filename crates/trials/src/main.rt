@@ -2,6 +2,7 @@
 mod build;
 mod reading;
 mod tally;
+
 use std::io;
 
 fn main(rt: LibcRuntime) -> io::Result<()> {

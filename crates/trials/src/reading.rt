@@ -16,13 +16,25 @@ fn reads_as(file: &[u8]) -> Outcome {
     }
 }
 
-fn expect(rt: &LibcRuntime, t: &mut Tally, name: &str, file: &[u8], want: Outcome) -> io::Result<()> {
+fn expect(
+    rt: &LibcRuntime,
+    t: &mut Tally,
+    name: &str,
+    file: &[u8],
+    want: Outcome,
+) -> io::Result<()> {
     let got = reads_as(file);
     t.note(rt, name, got.0 == want.0 && got.1 == want.1)
 }
 
 // One byte changed in turn: its place and new value, and what that should come to.
-fn damaged(rt: &LibcRuntime, t: &mut Tally, name: &str, file: &[u8], table: &[(usize, u8, usize, usize)]) -> io::Result<()> {
+fn damaged(
+    rt: &LibcRuntime,
+    t: &mut Tally,
+    name: &str,
+    file: &[u8],
+    table: &[(usize, u8, usize, usize)],
+) -> io::Result<()> {
     for (at, byte, number, place) in table {
         let mut copy = file.to_vec(rt.alloc())?;
         if *at < copy.len() {
@@ -134,7 +146,13 @@ fn order(rt: &LibcRuntime, t: &mut Tally) -> io::Result<()> {
     let mut heavy = build::offers(rt.alloc(), &[5, 1_000_001, 3])?;
     expect(rt, t, "a weight above, and no rule", &heavy, Outcome(3, 6))?;
     build::free(&mut heavy)?;
-    expect(rt, t, "a weight above, and no second rule", &heavy, Outcome(3, 6))?;
+    expect(
+        rt,
+        t,
+        "a weight above, and no second rule",
+        &heavy,
+        Outcome(3, 6),
+    )?;
     let mut light = build::offers(rt.alloc(), &[1_000_000, 0, 1_000_000])?;
     build::free(&mut light)?;
     build::free(&mut light)?;
@@ -175,13 +193,31 @@ fn many_volunteers(rt: &LibcRuntime, count: u16) -> io::Result<Vec<u8>> {
 
 fn edges(rt: &LibcRuntime, t: &mut Tally) -> io::Result<()> {
     expect(rt, t, "64 groups", &many_groups(rt, 64, 600)?, FINE)?;
-    expect(rt, t, "65 groups", &many_groups(rt, 65, 600)?, Outcome(5, 15))?;
-    expect(rt, t, "limit 601", &many_groups(rt, 2, 601)?, Outcome(5, 16))?;
+    expect(
+        rt,
+        t,
+        "65 groups",
+        &many_groups(rt, 65, 600)?,
+        Outcome(5, 15),
+    )?;
+    expect(
+        rt,
+        t,
+        "limit 601",
+        &many_groups(rt, 2, 601)?,
+        Outcome(5, 16),
+    )?;
     expect(rt, t, "one offer", &many_offers(rt, 1)?, FINE)?;
     expect(rt, t, "600 offers", &many_offers(rt, 600)?, FINE)?;
     expect(rt, t, "601 offers", &many_offers(rt, 601)?, Outcome(2, 0))?;
     expect(rt, t, "600 volunteers", &many_volunteers(rt, 600)?, FINE)?;
-    expect(rt, t, "601 volunteers", &many_volunteers(rt, 601)?, Outcome(5, 2403))
+    expect(
+        rt,
+        t,
+        "601 volunteers",
+        &many_volunteers(rt, 601)?,
+        Outcome(5, 2403),
+    )
 }
 
 pub fn all(rt: &LibcRuntime) -> io::Result<()> {

@@ -20,10 +20,11 @@ use Rattle.sets.proofs.Places.{rows-apart}
 use Rattle.sets.proofs.Stretches.{members-outside}
 use Rattle.exchange.specs.Round.{top, State}
 use Rattle.matroid.specs.Optimal.{Signed-split}
+use Rattle.matroid.proofs.Along.{with-alike, swap-alike}
 use Rattle.weighted.specs.Choice.{sized-set, first-part, second-part}
 use Rattle.std.proofs.shelf.Tests.{cases-lt}
 use Rattle.weighted.proofs.Rounds.{state-splits}
-use Rattle.weighted.proofs.Written.{signed-along, with-alike, swap-alike}
+use Rattle.weighted.proofs.Written.{signed-along}
 
 -- a state of a set and potentials that agree below n with those of a state
 pub state-along : {n : ℕ} {f g : Set → Bool} → Matroid n f → Matroid n g → (w a a′ : ℕ → ℕ) (loss : ℕ) (s t : Set) →
