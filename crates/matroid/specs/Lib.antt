@@ -1,1 +1,7 @@
+pub mod Examples
+pub mod Exchanges
+pub mod Gains
 pub mod Optimal
+pub mod Problem
+pub mod Reading
+pub mod Rules

@@ -3,6 +3,8 @@
 use mathlib.Core.Path.{_≡_}
 use mathlib.Core.Bool.{Bool, true, false}
 use Prim.Native.Nat.{ℕ, _+_, _≤_, _<_}
+use lib.IntN.{ℤ, pos, _+ℤ_}
+use lib.Signed.{_≤ℤ_}
 use Rattle.sets.specs.Matroid.{Set, size, weight, both, outside, without, with, Matroid}
 
 -- a dual set u: no further element of u can be added by the first test to what was chosen of u,
@@ -43,3 +45,30 @@ abbrev pub Heaviest-by-one : Type 0
 Heaviest-by-one =
     (n : ℕ) (f : Set → Bool) (a : ℕ → ℕ) (s t : Set) → Matroid n f → f s ≡ true → f t ≡ true →
     size n t ≡ size n s → Best n f a s → weight n a t ≤ weight n a s
+
+-- numbers of either sign that add up to the weights: what could be added has by neither number more than a chosen one,
+-- and what could come if a chosen one goes has no more than that one
+pub record Signed-split (n : ℕ) (f g : Set → Bool) (w : ℕ → ℕ) (p q : ℕ → ℤ) (s : Set) : Type 0 where
+  pub first : f s ≡ true
+  pub second : g s ≡ true
+  pub parts : (x : ℕ) → x < n → p x +ℤ q x ≡ pos (w x)
+  pub add-first : (y x : ℕ) → y < n → x < n → s y ≡ true → s x ≡ false → f (with s x) ≡ true → p x ≤ℤ p y
+  pub exchange-first : (y x : ℕ) → y < n → x < n → s y ≡ true → s x ≡ false → f (with (without s y) x) ≡ true → p x ≤ℤ p y
+  pub add-second : (y x : ℕ) → y < n → x < n → s y ≡ true → s x ≡ false → g (with s x) ≡ true → q x ≤ℤ q y
+  pub exchange-second : (y x : ℕ) → y < n → x < n → s y ≡ true → s x ≡ false → g (with (without s y) x) ≡ true → q x ≤ℤ q y
+
+-- a set with such numbers is a heaviest one of its size
+abbrev pub Heaviest-signed : Type 0
+Heaviest-signed =
+    (n : ℕ) (f g : Set → Bool) (w : ℕ → ℕ) (p q : ℕ → ℤ) (s t : Set) → Matroid n f → Matroid n g →
+    Signed-split n f g w p q s → f t ≡ true → g t ≡ true → size n t ≡ size n s → weight n w t ≤ weight n w s
+
+-- no element that can take another's place has a greater number
+abbrev pub Signed-best : (n : ℕ) → (Set → Bool) → (ℕ → ℤ) → Set → Type 0
+Signed-best n f p s = (y x : ℕ) → y < n → x < n → s y ≡ true → s x ≡ false → f (with (without s y) x) ≡ true → p x ≤ℤ p y
+
+-- what can be added can also come for any chosen one, so the numbers need to be compared over exchanges only
+abbrev pub Exchanges-suffice : Type 0
+Exchanges-suffice =
+    (n : ℕ) (f g : Set → Bool) (w : ℕ → ℕ) (p q : ℕ → ℤ) (s : Set) → Matroid n f → Matroid n g → f s ≡ true → g s ≡ true →
+    ((x : ℕ) → x < n → p x +ℤ q x ≡ pos (w x)) → Signed-best n f p s → Signed-best n g q s → Signed-split n f g w p q s

@@ -1,7 +1,9 @@
 -- Sets as bits in bytes and in words of 32 bits, and numbers in bytes, the low byte first.
-use mathlib.Core.Bool.{Bool}
+use mathlib.Core.Path.{_≡_}
+use mathlib.Core.Bool.{Bool, true, false, not}
 use mathlib.Core.List.{List}
-use Prim.Native.Nat.{ℕ, _+_, _*_, _/_, _%_, _^_}
+use mathlib.Core.Logic.{_⊎_}
+use Prim.Native.Nat.{ℕ, _+_, _*_, _/_, _%_, _^_, _≤_, _<_}
 use lib.Dec.{eqb}
 use lib.ListN.{getD}
 
@@ -26,6 +28,15 @@ row-bytes n = (n + 7) / 8
 
 abbrev pub row-words : ℕ → ℕ
 row-words n = (n + 31) / 32
+
+-- exactly one of two
+abbrev pub xor : Bool → Bool → Bool
+xor true b = not b
+xor false b = b
+
+-- two lists agree at every place but the m places from `at` on
+abbrev pub Same-but : ℕ → ℕ → List ℕ → List ℕ → Type 0
+Same-but at m old new = (p : ℕ) → (p < at) ⊎ (at + m ≤ p) → getD new p 0 ≡ getD old p 0
 
 -- the number in two, four and eight bytes
 abbrev pub le2 : List ℕ → ℕ → ℕ

@@ -4,8 +4,13 @@ use mathlib.Core.Logic.{_⊎_}
 use Prim.Native.Nat.{ℕ, _+_, _*_, _≤_, _<_}
 use Rattle.sets.specs.declared.refusal.Refusal.{Refusal}
 use Rattle.sets.specs.declared.refusal.Refusal.the-variants.{Length, Offers, Weight, Kind, Range, Overlap, Town, Row, Short, Refused, Dual, Split}
+use Rattle.sets.specs.declared.refusal.Source.{Source}
+use Rattle.sets.specs.declared.refusal.Source.the-variants.{Certificate}
+use Rattle.sets.specs.declared.refusal.Source.the-variants as Source
 use Rattle.sets.specs.declared.refusal.Lent.{Lent}
 use Rattle.sets.specs.declared.refusal.Lent.the-variants.{Sets, Numbers, Work}
+use Rattle.std.specs.declared.option.Option.{Option}
+use Rattle.std.specs.declared.option.Option.the-variants.{Some, None}
 use Rattle.sets.specs.Matroid.{pick}
 
 abbrev pub number : Refusal → ℕ
@@ -40,6 +45,21 @@ place (Short l) = slice-place l
 place (Refused k second) = k * 2 + pick second 1 0
 place (Dual x) = x
 place (Split k x) = x
+
+-- which input a place in bytes or a set belongs to; none for lent memory
+abbrev pub source : Refusal → Option Source
+source (Length s _) = Some s
+source Offers = Some Source.Offers
+source (Weight _) = Some Source.Offers
+source (Kind _) = Some Source.Offers
+source (Range s _) = Some s
+source (Overlap _) = Some Source.Offers
+source (Town _) = Some Source.Offers
+source (Row _) = Some Source.Offers
+source (Short _) = None
+source (Refused _ _) = Some Certificate
+source (Dual _) = Some Certificate
+source (Split _ _) = Some Certificate
 
 -- one refusal comes before another: at an earlier place, or at the same place by a number that is no greater
 abbrev pub Precedes : Refusal → Refusal → Type 0

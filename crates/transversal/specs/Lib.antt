@@ -1,0 +1,3 @@
+pub mod Pairs
+pub mod Reading
+pub mod Volunteers

@@ -23,3 +23,9 @@ Round =
     (n : ℕ) (f g : Set → Bool) (w a : ℕ → ℕ) (loss : ℕ) (s reached : Set) (d k back : ℕ → ℕ) (t : ℕ) →
     Matroid n f → Matroid n g → ((x : ℕ) → x < n → w x ≤ top) → State n f g w a loss s →
     Labels n f g w a s reached d k back → End n g w a s reached d k t → Next n f g w a loss s reached d k back t
+
+-- one offer was added: a state of the new set and the new potentials
+pub record Added (n : ℕ) (f g : Set → Bool) (w a : ℕ → ℕ) (loss : ℕ) (s t : Set) : Type 0 where
+  pub state : State n f g w a loss t
+  pub sized : size n t ≡ suc (size n s)
+  pub low : loss ≤ suc (size n s) * top

@@ -1,0 +1,12 @@
+mod Accepting
+mod Assembly
+mod Bytes
+mod Judging
+mod LeastOffers
+mod Rows
+mod SetFaults
+mod Sides
+mod SizeFaults
+mod Soundness
+mod Unique
+mod Validating

@@ -1,0 +1,5 @@
+pub mod Accepted
+pub mod Faults
+pub mod Layout
+pub mod Soundness
+pub mod Validity

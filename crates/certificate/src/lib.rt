@@ -1,0 +1,12 @@
+// The check of a certificate, written by anybody, against a file of offers.
+mod dual;
+mod layout;
+mod offers;
+mod sheet;
+mod sized;
+mod split;
+pub mod theory;
+
+pub use offers::check;
+pub use sheet::check_sheet;
+pub use sheet::work_length;

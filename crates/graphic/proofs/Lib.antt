@@ -1,0 +1,11 @@
+pub mod Closed
+pub mod Free
+pub mod Growing
+pub mod Joined
+pub mod Kept
+pub mod Laws
+pub mod Merging
+pub mod Parity
+pub mod Reading
+pub mod Rings
+pub mod Rows

@@ -1,0 +1,9 @@
+pub mod Fits
+pub mod Keeping
+pub mod Kept
+pub mod Laws
+pub mod Moves
+pub mod Nested
+pub mod Reading
+pub mod Sizes
+pub mod Steps

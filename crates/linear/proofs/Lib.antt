@@ -1,0 +1,11 @@
+pub mod Answered
+pub mod DualBasis
+pub mod Growth
+pub mod Insertion
+pub mod Inverse
+pub mod Laws
+pub mod Modulo
+pub mod Reading
+pub mod Span
+pub mod Steps
+pub mod Sums

@@ -1,0 +1,5 @@
+use Rattle.linear.proofs.Laws.{natural}
+use Rattle.linear.proofs.theory.rows_read_naturally.Needs as need
+
+pub returns : need.returns
+returns c = natural

@@ -1,0 +1,15 @@
+pub mod Along
+pub mod FileReading
+pub mod Gains
+pub mod KindLaws
+pub mod ManyExchanges
+pub mod OneMatroid
+pub mod Optimality
+pub mod RuleLaws
+pub mod RulePlaces
+pub mod RuleReading
+pub mod SmallExchanges
+pub mod SmallMatroids
+pub mod Stages
+pub mod TightExchanges
+pub mod WeightReading

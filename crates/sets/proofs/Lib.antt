@@ -1,0 +1,9 @@
+pub mod ClosureTheorem
+pub mod FiniteSets
+pub mod Marks
+pub mod Masks
+pub mod MatroidLaws
+pub mod Places
+pub mod Stretches
+pub mod Transfer
+pub mod Weights

@@ -1,0 +1,11 @@
+use lib.ListN.{getD}
+use lib.Bits.{bitOr}
+use Prim.Native.Nat.{_+_}
+use Rattle.sets.proofs.Stretches.{Rewritten}
+use Rattle.sets.proofs.words.or_row.Given as given
+
+abbrev pub Inv-loop-k : given.InvT-loop-k
+Inv-loop-k l =
+    Rewritten
+    (λ p. bitOr (getD (l .entry .words) (l .to + p) 0) (getD (l .entry .words) (l .from + p) 0))
+    (l .to) (l .k) (l .entry .words) (l .words)

@@ -1,0 +1,13 @@
+pub mod Augment
+pub mod Closed
+pub mod Closing
+pub mod Going
+pub mod Growth
+pub mod Kept
+pub mod Laws
+pub mod Matchings
+pub mod Pairing
+pub mod Reading
+pub mod RowFacts
+pub mod RowTurns
+pub mod Turns

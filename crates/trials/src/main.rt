@@ -1,0 +1,10 @@
+// Trials: many small cases, run beside what they should give. Each line counts the cases that came out right and wrong.
+mod build;
+mod reading;
+mod tally;
+
+use std::io;
+
+fn main(rt: LibcRuntime) -> io::Result<()> {
+    reading::all(&rt)
+}

@@ -1,0 +1,13 @@
+pub mod Chosen
+pub mod Converses
+pub mod Existence
+pub mod LabelsExist
+pub mod Lengths
+pub mod Moving
+pub mod Progress
+pub mod Raised
+pub mod Rounding
+pub mod Rounds
+pub mod SmallRounds
+pub mod Turning
+pub mod Written
