@@ -22,6 +22,15 @@ impl Tally {
         println!(rt, "wrong: {name}")
     }
 
+    // Counts a case that has no name.
+    pub fn count(&mut self, right: bool) {
+        if right {
+            self.good = self.good.saturating_add(1);
+        } else {
+            self.bad = self.bad.saturating_add(1);
+        }
+    }
+
     // A line with both counts.
     pub fn show(&self, rt: &impl Print, name: &str) -> io::Result<()> {
         let good = self.good;
