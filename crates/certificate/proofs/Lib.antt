@@ -4,6 +4,7 @@ mod Bytes
 mod Judging
 mod LeastOffers
 mod Rows
+mod RowsWritten
 mod SetFaults
 mod Sides
 mod SizeFaults

@@ -3,3 +3,4 @@ pub mod Faults
 pub mod Layout
 pub mod Soundness
 pub mod Validity
+pub mod Writing

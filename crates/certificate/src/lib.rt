@@ -6,7 +6,9 @@ mod sheet;
 mod sized;
 mod split;
 pub mod theory;
+mod writing;
 
 pub use offers::check;
 pub use sheet::check_sheet;
 pub use sheet::work_length;
+pub use writing::write_sheet;
