@@ -1,6 +1,9 @@
+mod Accepted
 mod Accepting
+mod Admission
 mod Assembly
 mod Bytes
+mod Complete
 mod Judging
 mod LeastOffers
 mod Rows

@@ -1,4 +1,5 @@
 pub mod Accepted
+pub mod Completeness
 pub mod Faults
 pub mod Layout
 pub mod Soundness
