@@ -1,10 +1,9 @@
 -- What is admitted before a choice, and what that says of the lent memory.
-use mathlib.Core.Path.{_≡_, refl, sym, ap, subst, _∙_}
+use mathlib.Core.Path.{_≡_, refl, sym, ap, _∙_}
 use mathlib.Core.Bool.{Bool, true, false, cond}
 use mathlib.Core.List.{List}
 use Prim.Native.Nat.{ℕ, _+_, _*_, _≤_, _<_}
 use lib.Dec.{ltb}
-use lib.ListN.{length}
 use native.Mathlib.Nat.{mul-le-mul-right}
 use native.Mathlib.Omega.{arith}
 use Rattle.std.specs.declared.result.Result.{Result}
@@ -15,7 +14,6 @@ use Rattle.sets.specs.declared.refusal.Refusal.{Refusal}
 use Rattle.sets.specs.declared.refusal.Refusal.the-variants.{Short}
 use Rattle.sets.specs.declared.refusal.Lent.the-variants.{Sets, Numbers, Work}
 use Rattle.matroid.specs.Reading.{and-then, read}
-use Rattle.matroid.specs.Rules.{kept-length}
 use Rattle.matroid.specs.declared.problem.Problem.{Problem}
 use Rattle.weighted.specs.Choice.{sets-length, numbers-length, admitted}
 use Rattle.weighted.specs.Choice as choice

@@ -1,26 +1,22 @@
 -- What is written from a choice is a valid certificate.
-use mathlib.Core.Path.{_≡_, refl, sym, ap, subst, _∙_}
-use mathlib.Core.Bool.{Bool, true, false, _&&_, _||_, not}
+use mathlib.Core.Path.{_≡_, sym, ap, _∙_}
+use mathlib.Core.Bool.{Bool, false, _&&_}
 use mathlib.Core.List.{List}
-use Prim.Native.Nat.{ℕ, zero, suc, _+_, _-_, _*_, _/_, _≤_, _<_}
-use lib.Dec.{eqb, ltb}
-use lib.IntN.{ℤ}
-use lib.ListN.{getD, length}
+use Prim.Native.Nat.{ℕ, zero, suc, _+_, _-_, _*_, _≤_, _<_}
+use lib.ListN.{getD}
 use mir.Syntax.{w64}
 use mir.Val.{toZ}
 use native.Mathlib.Omega.{arith}
-use native.Mathlib.Nat.{mul-add}
 use Rattle.std.proofs.shelf.Tests.{lt-ltb, le-ltb}
 use Rattle.sets.specs.Bits.{row, row-bytes, le8}
 use Rattle.sets.specs.Matroid.{Set, size, both, outside, with, Matroid}
 use Rattle.sets.proofs.FiniteSets.{size-same}
 use Rattle.sets.proofs.MatroidLaws.{allowed-same}
 use Rattle.matroid.specs.Optimal.{Dual, Signed-split}
-use Rattle.weighted.specs.Choice.{Sized, Chosen}
+use Rattle.weighted.specs.Choice.{Chosen}
 use Rattle.weighted.specs.Choice as choice
 use Rattle.weighted.proofs.Written.{signed-along}
-use Rattle.certificate.specs.Layout.{row-at, largest-set, dual-set, sized-set, count, needed, numbers-at, part, first-part, second-part, Clean}
-use Rattle.certificate.specs.Validity.{Valid}
+use Rattle.certificate.specs.Layout.{row-at, largest-set, dual-set, sized-set, count, numbers-at, part, first-part, second-part}
 use Rattle.certificate.specs.Writing.{Row-written, Numbers-written, Written}
 use Rattle.certificate.specs.Completeness.{Choices-are-valid}
 use Rattle.certificate.proofs.Rows.{row-apart}

@@ -1,20 +1,20 @@
 -- The bytes of a certificate, written row by row.
-use mathlib.Core.Path.{_≡_, refl, sym, ap, subst, _∙_}
-use mathlib.Core.Bool.{Bool, true, false, _&&_}
+use mathlib.Core.Path.{_≡_, sym, ap, subst, _∙_}
+use mathlib.Core.Bool.{_&&_}
 use mathlib.Core.List.{List}
 use mathlib.Core.Logic.{_⊎_, inl, inr, ⊎-elim}
-use Prim.Native.Nat.{ℕ, suc, _+_, _-_, _*_, _/_, _%_, _≤_, _<_}
+use Prim.Native.Nat.{ℕ, _+_, _-_, _*_, _/_, _%_, _≤_, _<_}
 use lib.Dec.{ltb}
-use lib.ListN.{getD, length}
+use lib.ListN.{getD}
 use native.Mathlib.Nat.{mul-le-mul-right, add-mul}
 use native.Mathlib.Omega.{arith}
 use Rattle.std.proofs.shelf.Tests.{cases-lt}
 use Rattle.sets.specs.Bits.{row, row-bytes, le2, le4, le8, Same-but}
 use Rattle.sets.proofs.Masks.{bit}
-use Rattle.sets.proofs.Stretches.{row-is, members-outside}
+use Rattle.sets.proofs.Stretches.{row-is}
 use Rattle.certificate.specs.Layout.{row-at}
 use Rattle.certificate.specs.Writing.{Row-written, Numbers-written, Written, Only-row}
-use Rattle.certificate.proofs.Rows.{row-apart, block-end}
+use Rattle.certificate.proofs.Rows.{row-apart}
 
 -- two lists have the same numbers below m
 abbrev pub Agree : ℕ → List ℕ → List ℕ → Type 0
@@ -24,13 +24,14 @@ Agree m old new = (p : ℕ) → p < m → getD new p 0 ≡ getD old p 0
 pub row-along : (m : ℕ) (old new : List ℕ) (at j : ℕ) → Agree m old new → at + j / 8 < m → row new at j ≡ row old at j
 row-along m old new at j h l = row-is new at j ∙ ap (λ (v : ℕ). bit v (j % 8)) (h (at + j / 8) l) ∙ sym (row-is old at j)
 
--- two bytes below m have the same number, and so have four and eight
+-- the number in two bytes below m
 le2-along : (m : ℕ) (old new : List ℕ) (at : ℕ) → Agree m old new → at + 2 ≤ m → le2 new at ≡ le2 old at
 le2-along m old new at h l =
     let a : getD new at 0 ≡ getD old at 0 = h at (omega arith) in
     let b : getD new (at + 1) 0 ≡ getD old (at + 1) 0 = h (at + 1) (omega arith) in
     cc
 
+-- the number in four bytes below m
 le4-along : (m : ℕ) (old new : List ℕ) (at : ℕ) → Agree m old new → at + 4 ≤ m → le4 new at ≡ le4 old at
 le4-along m old new at h l =
     let a : le2 new at ≡ le2 old at = le2-along m old new at h (omega arith) in

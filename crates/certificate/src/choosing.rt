@@ -1,6 +1,6 @@
 // A choice, its certificate, and the check of that certificate in one call.
 ghost use mathlib.Core.Path.{_≡_};
-ghost use Prim.Native.Nat.{ℕ, _+_, _*_, _^_, _<_, _≤_};
+ghost use Prim.Native.Nat.{ℕ, _+_, _*_, _<_, _≤_};
 ghost use lib.ListN.{length, getD, take};
 ghost use Rattle.sets.specs.Bits.{row-bytes};
 ghost use Rattle.std.specs.Results.{Cases, isOk};
