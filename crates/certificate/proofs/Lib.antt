@@ -1,9 +1,13 @@
+mod Accepted
 mod Accepting
+mod Admission
 mod Assembly
 mod Bytes
+mod Complete
 mod Judging
 mod LeastOffers
 mod Rows
+mod RowsWritten
 mod SetFaults
 mod Sides
 mod SizeFaults
