@@ -1,5 +1,7 @@
 // Chooses among a festival's offers under two rules: a heaviest choice for every size, and a proof that it is one.
+use certificate::choose_and_check;
 use sets::numbers::read_u16;
+use sets::refusal::Refusal;
 use std::env;
 use std::error::AnyError;
 use std::fs;
@@ -18,6 +20,8 @@ const NUMBERS: usize = 720_000;
 
 const WORK: usize = 140_000;
 
+const SHEET: usize = 5_805_150;
+
 // How many offers the file says there are.
 fn offers(file: &[u8]) -> usize {
     if file.len() < 2 {
@@ -26,42 +30,57 @@ fn offers(file: &[u8]) -> usize {
     (read_u16(file, 0) as usize).min(600)
 }
 
-// Chooses from a file of offers, says what is chosen and writes the proofs. Is the file accepted?
-fn answer(rt: &LibcRuntime, file: &[u8], sheet: Option<&str>) -> Result<bool, AnyError> {
+// Says why a file is refused.
+fn refuse(rt: &LibcRuntime, refusal: Refusal) -> io::Result<bool> {
+    let number = refusal.number();
+    let place = refusal.place();
+    println!(rt, "refused {number} at {place}")?;
+    Ok(false)
+}
+
+// Says what is chosen.
+fn tell(rt: &LibcRuntime, file: &[u8], size: usize, sets: &[u8]) -> io::Result<bool> {
+    let mut out = BufWriter::new(rt.stdout());
+    report::show(&mut out, file, offers(file), size, sets)?;
+    out.flush()?;
+    Ok(true)
+}
+
+// Chooses from a file of offers and says what is chosen. Is the file accepted?
+fn answer(rt: &LibcRuntime, file: &[u8]) -> Result<bool, AnyError> {
     let mut sets = vec![in rt.alloc(); 0u8; SETS]?;
     let mut numbers = vec![in rt.alloc(); 0u64; NUMBERS]?;
     let mut work = vec![in rt.alloc(); 0u32; WORK]?;
-    let chosen = choose(
+    match choose(
         file,
         sets.as_mut_slice(),
         numbers.as_mut_slice(),
         work.as_mut_slice(),
-    );
-    match chosen {
-        Ok(answer) => {
-            let size = answer.size;
-            let n = offers(file);
-            let mut out = BufWriter::new(rt.stdout());
-            report::show(&mut out, file, n, size, sets.as_slice())?;
-            out.flush()?;
-            if let Some(name) = sheet {
-                let bytes = report::sheet(
-                    rt.alloc(),
-                    n,
-                    size,
-                    sets.as_slice(),
-                    numbers.as_slice(),
-                )?;
-                fs::write(rt, name, bytes.as_slice())?;
-            }
-            Ok(true)
+    ) {
+        Ok(answer) => Ok(tell(rt, file, answer.size, sets.as_slice())?),
+        Err(refusal) => Ok(refuse(rt, refusal)?),
+    }
+}
+
+// The same, and the certificate goes to a file.
+fn certify(rt: &LibcRuntime, file: &[u8], name: &str) -> Result<bool, AnyError> {
+    let mut sets = vec![in rt.alloc(); 0u8; SETS]?;
+    let mut numbers = vec![in rt.alloc(); 0u64; NUMBERS]?;
+    let mut sheet = vec![in rt.alloc(); 0u8; SHEET]?;
+    let mut work = vec![in rt.alloc(); 0u32; WORK]?;
+    match choose_and_check(
+        file,
+        sets.as_mut_slice(),
+        numbers.as_mut_slice(),
+        sheet.as_mut_slice(),
+        work.as_mut_slice(),
+    ) {
+        Ok(size) => {
+            sheet.truncate(report::sheet_length(offers(file), size));
+            fs::write(rt, name, sheet.as_slice())?;
+            Ok(tell(rt, file, size, sets.as_slice())?)
         }
-        Err(refusal) => {
-            let number = refusal.number();
-            let place = refusal.place();
-            println!(rt, "refused {number} at {place}")?;
-            Ok(false)
-        }
+        Err(refusal) => Ok(refuse(rt, refusal)?),
     }
 }
 
@@ -89,7 +108,7 @@ fn run(rt: &LibcRuntime) -> Result<bool, AnyError> {
     let mut args = env::args(rt)?;
     let _program = args.next();
     let Some(name) = args.next() else {
-        return answer(rt, &festival::OFFERS, None);
+        return answer(rt, &festival::OFFERS);
     };
     if name.as_str() == "--help" {
         help(rt)?;
@@ -101,8 +120,8 @@ fn run(rt: &LibcRuntime) -> Result<bool, AnyError> {
     }
     let file = fs::read(rt, name.as_str())?;
     match sheet {
-        Some(to) => answer(rt, file.as_slice(), Some(to.as_str())),
-        None => answer(rt, file.as_slice(), None),
+        Some(to) => certify(rt, file.as_slice(), to.as_str()),
+        None => answer(rt, file.as_slice()),
     }
 }
 

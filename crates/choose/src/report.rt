@@ -1,8 +1,6 @@
 // What is printed of a choice, and its bytes as a certificate.
 use sets::bytes::contains;
 use sets::numbers::read_u32;
-use std::alloc::AllocError;
-use std::alloc::Global;
 use std::io;
 use std::io::Write;
 
@@ -64,44 +62,10 @@ pub fn show<W: Write>(
     list(out, "u", n, sets, row)
 }
 
-// Adds the bytes from `from` to `to` of the sets, as far as they go.
-fn add_row(bytes: &mut Vec<u8>, sets: &[u8], from: usize, to: usize) -> Result<(), AllocError> {
-    if from <= to && to <= sets.len() {
-        bytes.extend_from_slice(&sets[from..to])?;
-    }
-    Ok(())
-}
-
-// Adds the numbers from `from` to `to`, the low byte first, as far as they go.
-fn add_numbers(
-    bytes: &mut Vec<u8>,
-    numbers: &[u64],
-    from: usize,
-    to: usize,
-) -> Result<(), AllocError> {
-    for p in from..to {
-        if p < numbers.len() {
-            bytes.extend_from_slice(&numbers[p].to_le_bytes())?;
-        }
-    }
-    Ok(())
-}
-
-// The certificate: the largest set, its dual set, and for each size its set and the two numbers of each offer.
-pub fn sheet(
-    heap: Global,
-    n: usize,
-    size: usize,
-    sets: &[u8],
-    numbers: &[u64],
-) -> Result<Vec<u8>, AllocError> {
+// How many bytes the certificate takes: a row of bits for the largest set, one for its dual set, and for each size a row of
+// bits and two numbers of eight bytes for each offer.
+pub fn sheet_length(n: usize, size: usize) -> usize {
     let n = n.min(600);
-    let row = n.div_ceil(8);
-    let mut bytes = Vec::new(heap);
-    add_row(&mut bytes, sets, 0, 2 * row)?;
-    for j in 0..size.min(600) {
-        add_row(&mut bytes, sets, (j + 2) * row, (j + 3) * row)?;
-        add_numbers(&mut bytes, numbers, 2 * j * n, 2 * (j + 1) * n)?;
-    }
-    Ok(bytes)
+    let size = size.min(600);
+    (size + 2) * n.div_ceil(8) + size * (16 * n)
 }
