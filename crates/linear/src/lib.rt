@@ -19,6 +19,8 @@ mod basis;
 pub mod theory;
 mod vectors;
 
+pub use vectors::number_at;
+
 // What stands in front of the rows: the prime, and how many numbers a row has.
 #[derive(Clone, Copy)]
 pub struct Shape {

@@ -5,6 +5,7 @@ mod cases;
 mod choices;
 mod kinds;
 mod reading;
+mod sheets;
 mod tally;
 
 use std::io;
@@ -12,5 +13,6 @@ use std::io;
 fn main(rt: LibcRuntime) -> io::Result<()> {
     reading::all(&rt)?;
     kinds::all(&rt)?;
-    choices::all(&rt)
+    choices::all(&rt)?;
+    sheets::all(&rt)
 }
