@@ -1,4 +1,4 @@
-// Choices beside a search of all sets: files of six offers for all sixteen pairs of kinds, each certificate checked, and
+// Choices beside all sets, tried one by one: files of six offers for all sixteen pairs of kinds, each certificate checked, and
 // checked again with one bit changed.
 use crate::build;
 use crate::cases;
