@@ -1,4 +1,6 @@
 // The check of a certificate, written by anybody, against a file of offers.
+#![tactic(auto)]
+
 mod choosing;
 mod dual;
 mod layout;

@@ -1,4 +1,6 @@
 // Checks a certificate, written by anybody, against a file of offers.
+#![tactic(auto)]
+
 use anyhow::anyhow;
 use certificate::{check, work_length};
 use sets::refusal::{Refusal, Source};

@@ -1,4 +1,6 @@
 // Chooses among a festival's offers under two rules: a heaviest choice for every size, and a proof that it is one.
+#![tactic(auto)]
+
 use anyhow::anyhow;
 use certificate::choose_and_check;
 use sets::numbers::read_u16;

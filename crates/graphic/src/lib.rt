@@ -1,4 +1,6 @@
 // Links: each offer is a link between two towns, and a set of links is allowed if there is no ring in it.
+#![tactic(auto)]
+
 ghost use Rattle.std.specs.Prelude.{◌≡◌, ℕ, suc, ◌+◌, ◌*◌, ◌<◌, ◌≤◌, Bool, true, false, length, ◌==◌, ◌≢◌};
 ghost use Rattle.sets.specs.Bits.{marked, row_words, word_row, xor};
 ghost use Rattle.sets.specs.Matroid.{Set, pick, with, without};

@@ -1,6 +1,8 @@
 // Rules of limits: nested groups of offers, each with the most that a set may have of it.
 // In the file a rule is a byte that says how many groups there are, and then the groups: two bytes for the limit, the low
 // byte first, and a row of bits, bit i for offer i.
+#![tactic(auto)]
+
 ghost use Rattle.std.specs.Prelude.{◌≡◌, ◌+◌, ◌-◌, ◌*◌, ◌/◌, ◌^◌, ◌<◌, ◌≤◌, true, false, length};
 ghost use Rattle.sets.specs.Bits.{row, row_bytes, row_words, marked};
 ghost use Rattle.sets.specs.Matroid.{size, both, with, without};

@@ -1,4 +1,6 @@
 // Rows of numbers modulo a prime: a set of offers is allowed if no row of it is a sum of multiples of its other rows.
+#![tactic(auto)]
+
 ghost use Rattle.std.specs.Prelude.{◌≡◌, ◌+◌, ◌*◌, ◌<◌, ◌≤◌, true, false, length};
 ghost use Rattle.sets.specs.Matroid.{with, without};
 ghost use Rattle.sets.specs.Bits.{marked, row_words};

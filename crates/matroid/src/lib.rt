@@ -1,5 +1,7 @@
 // Rules of four kinds as matroids: reading a file of offers, the three functions by which a rule is used, and theorems on
 // any matroids.
+#![tactic(auto)]
+
 pub mod examples;
 pub mod functions;
 pub mod laws;

@@ -1,4 +1,6 @@
 // Finite sets as bits in lent memory, numbers in bytes, and the refusals.
+#![tactic(auto)]
+
 pub mod bytes;
 pub mod numbers;
 pub mod refusal;

@@ -1,4 +1,6 @@
 // Rules of volunteers: each offer of an allowed set has a volunteer of its own who can look after it.
+#![tactic(auto)]
+
 mod matching;
 mod parse;
 mod rows;

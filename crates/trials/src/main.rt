@@ -1,4 +1,6 @@
 // Trials: many small cases, run beside what they should give. Each line counts the cases that came out right and wrong.
+#![tactic(auto)]
+
 mod brute;
 mod build;
 mod cases;

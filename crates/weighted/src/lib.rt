@@ -1,4 +1,6 @@
 // A heaviest choice for every size, and theorems on the rounds that find it.
+#![tactic(auto)]
+
 mod choice;
 pub mod examples;
 mod parts;

@@ -5,12 +5,12 @@ use Rattle.sets.proofs.Transfer.{loaded_none, loaded_next, loaded_all}
 use Rattle.sets.proofs.words.load_row.Goals as goal
 
 pub loop-k-init : goal.loop-k-init
-loop-k-init c = (loaded_none _ _ _ _ _ _ c.clear-row.ensures.marks, λ p o. refl)
+loop-k-init c = (loaded_none _ _ _ _ _ _ c.clear_row.ensures.marks, λ p o. refl)
 
 pub loop-k-preserved : goal.loop-k-preserved
 loop-k-preserved c =
     let inv = c.loop-k.invariant in
-    let byte = c.type-inv.bytes (c.args.at + c.loop-k.k) in (
+    let byte = c.ok.bytes (c.args.at + c.loop-k.k) in (
       loaded_next _ _ _ _ _ _ _ _ c.low-bits-byte.ensures (omega arith) (omega arith) (omega arith) inv.0,
       same_but_more _ _ _ _ _ _ (omega arith) (omega arith) inv.1,
     )
@@ -20,5 +20,5 @@ returns c =
     let e : c.loop-k.k ≡ (c.args.n + 7) / 8 = omega arith in
     record {
       marks = loaded_all _ _ _ _ _ _ _ e c.loop-k.invariant.0;
-      rest = λ p o. c.loop-k.invariant.1 p o ∙ c.clear-row.ensures.rest p o;
+      rest = λ p o. c.loop-k.invariant.1 p o ∙ c.clear_row.ensures.rest p o;
     }

@@ -8,7 +8,7 @@ pub loop-k-init : goal.loop-k-init
 loop-k-init c = rewritten_none _ _ _
 
 pub loop-k-preserved : goal.loop-k-preserved
-loop-k-preserved c = rewritten_more _ _ _ _ _ _ (omega arith) c.low-bits.ensures c.loop-k.invariant
+loop-k-preserved c = rewritten_more _ _ _ _ _ _ (omega arith) c.low_bits.ensures c.loop-k.invariant
 
 pub returns : goal.returns
 returns c =
