@@ -12,7 +12,7 @@ returns-then-new-old c = record {
   answers = λ s r h.
       ap not (sym (eq-eqb _ _ c.if-new-old.true))
       ∙ add_answer c.args.file.now c.args.n c.args.towns c.args.at s c.args.state.now c.requires.well r
-      c.args.x c.from-town-u.result c.to-town-v.result (omega arith) h c.from-town-u.ensures c.to-town-v.ensures;
+      c.args.x c.from_town-u.result c.to_town-v.result (omega arith) h c.from_town-u.ensures c.to_town-v.ensures;
   grows = λ s r h e. absurd (false≢true e);
 }
 
@@ -23,10 +23,10 @@ returns c = record {
 }
   where
     whole : (s : Set) → Ready c.args.file.now c.args.n c.args.towns c.args.at s c.args.state.now → s c.args.x ≡ false →
-        Ready c.args.file.now c.args.n c.args.towns c.args.at (with s c.args.x) c.merge-classes.new.state
+        Ready c.args.file.now c.args.n c.args.towns c.args.at (with s c.args.x) c.merge_classes.new.state
     whole s r h =
-        ready_with c.args.file.now c.args.n c.args.towns c.args.at s c.args.x c.from-town-u.result c.to-town-v.result
-        c.args.state.now c.sum-rows.new.state c.merge-classes.new.state c.requires.well r (omega arith) h
-        c.from-town-u.ensures c.to-town-v.ensures c.if-new-old.false (omega arith)
-        c.sum-rows.ensures.sum c.sum-rows.ensures.labels c.sum-rows.ensures.rows
-        c.merge-classes.ensures.labels c.merge-classes.ensures.rows
+        ready_with c.args.file.now c.args.n c.args.towns c.args.at s c.args.x c.from_town-u.result c.to_town-v.result
+        c.args.state.now c.sum_rows.new.state c.merge_classes.new.state c.requires.well r (omega arith) h
+        c.from_town-u.ensures c.to_town-v.ensures c.if-new-old.false (omega arith)
+        c.sum_rows.ensures.sum c.sum_rows.ensures.labels c.sum_rows.ensures.rows
+        c.merge_classes.ensures.labels c.merge_classes.ensures.rows

@@ -11,8 +11,8 @@ returns-then-file-place-lt2 c =
     let s = rw a at (towns_step c.args.file.now c.args.towns c.args.count c.loop-j.j c.args.at (omega arith)) in
     sym s ∙ c.loop-j.invariant.1
 
-pub returns-then-read-u16-towns : goal.returns-then-read-u16-towns
-returns-then-read-u16-towns c =
+pub returns-then-read_u16-towns : goal.returns-then-read_u16-towns
+returns-then-read_u16-towns c =
     let a : ltb (length c.args.file.now) (c.args.at + 2 * c.loop-j.j + 2) ≡ false = le-ltb _ _ (omega arith) in
     let b : leb c.args.towns (le2 c.args.file.now (c.args.at + 2 * c.loop-j.j)) ≡ true = le-leb _ _ (omega arith) in
     let s = rw (a, b) at (towns_step c.args.file.now c.args.towns c.args.count c.loop-j.j c.args.at (omega arith)) in

@@ -4,7 +4,7 @@ use Rattle.std.proofs.lemmas.Bool.{false≢true}
 use Rattle.sets.specs.Bits.{marked}
 use Rattle.graphic.proofs.Growing.{front, front_new, ready_none, front_none, front_taken, front_passed, front_all, stops}
 use Rattle.graphic.proofs.independent.Goals as goal
-use Rattle.graphic.proofs.independent.Goals.{else-contains-via-then-contains+else-not-add-link, else-contains-via-else-contains}
+use Rattle.graphic.proofs.independent.Goals.{else-contains-via-then-contains+else-not-add_link, else-contains-via-else-contains}
 
 pub loop-i-init : goal.loop-i-init
 loop-i-init c =
@@ -15,24 +15,24 @@ pub loop-i-preserved : goal.loop-i-preserved
 loop-i-preserved c =
     let is : c.contains.result ≡ marked c.args.set.now c.loop-i.i = rw zero-add at c.contains.ensures in
     elim c.else-contains.branch [
-      | else-contains-via-then-contains+else-not-add-link w ↦ rw w.state-is
-          (front_taken c.args.file.now c.args.n c.args.towns c.args.at (marked c.args.set.now) c.loop-i.i w.add-link.new.state
+      | else-contains-via-then-contains+else-not-add_link w ↦ rw w.state-is
+          (front_taken c.args.file.now c.args.n c.args.towns c.args.at (marked c.args.set.now) c.loop-i.i w.add_link.new.state
           (sym is ∙ w.if-contains.true)
-          (w.add-link.ensures.grows (front (marked c.args.set.now) c.loop-i.i) c.loop-i.invariant
-          (front_new (marked c.args.set.now) c.loop-i.i) w.if-not-add-link.false))
+          (w.add_link.ensures.grows (front (marked c.args.set.now) c.loop-i.i) c.loop-i.invariant
+          (front_new (marked c.args.set.now) c.loop-i.i) w.if-not-add_link.false))
       | else-contains-via-else-contains w ↦ rw w.state-is
           (front_passed c.args.file.now c.args.n c.args.towns c.args.at (marked c.args.set.now) c.loop-i.i c.loop-i.state
           (sym is ∙ w.if-contains.false) c.loop-i.invariant)
     ]
 
-pub returns-then-not-add-link : goal.returns-then-not-add-link
-returns-then-not-add-link c =
+pub returns-then-not-add_link : goal.returns-then-not-add_link
+returns-then-not-add_link c =
     let is : c.contains.result ≡ marked c.args.set.now c.loop-i.i = rw zero-add at c.contains.ensures in
     record {
       answers = sym (stops c.args.file.now c.args.n c.args.towns c.args.at (marked c.args.set.now) c.loop-i.i
           (sym is ∙ c.if-contains.true)
-          (sym (c.add-link.ensures.answers (front (marked c.args.set.now) c.loop-i.i) c.loop-i.invariant
-          (front_new (marked c.args.set.now) c.loop-i.i)) ∙ c.if-not-add-link.true));
+          (sym (c.add_link.ensures.answers (front (marked c.args.set.now) c.loop-i.i) c.loop-i.invariant
+          (front_new (marked c.args.set.now) c.loop-i.i)) ∙ c.if-not-add_link.true));
       ready = λ e. absurd (false≢true e);
     }
 

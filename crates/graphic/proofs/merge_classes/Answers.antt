@@ -11,9 +11,9 @@ pub loop-t-preserved : goal.loop-t-preserved
 loop-t-preserved c =
     elim c.if-state-t.branch [
       | then-state-t w ↦ rw w.state-is
-          (merging_town c.args.n c.args.old c.args.new c.loop-t.t c.args.state.now c.loop-t.state w.merge-town.new.state
-          (omega arith) c.loop-t.invariant w.if-state-t.true w.merge-town.ensures.label w.merge-town.ensures.row
-          w.merge-town.ensures.work w.merge-town.ensures.labels w.merge-town.ensures.rows)
+          (merging_town c.args.n c.args.old c.args.new c.loop-t.t c.args.state.now c.loop-t.state w.merge_town.new.state
+          (omega arith) c.loop-t.invariant w.if-state-t.true w.merge_town.ensures.label w.merge_town.ensures.row
+          w.merge_town.ensures.work w.merge_town.ensures.labels w.merge_town.ensures.rows)
       | else-state-t w ↦ rw w.state-is
           (merging_skip c.args.n c.args.old c.args.new c.loop-t.t c.args.state.now c.loop-t.state (omega arith)
           c.loop-t.invariant w.if-state-t.false)

@@ -7,8 +7,8 @@ use Rattle.graphic.proofs.Kept.{row_fits}
 use Rattle.graphic.proofs.Rows.{label_new, label_kept, work_kept, town_row_new, other_row_kept}
 use Rattle.graphic.proofs.merge_town.Goals as goal
 
-pub xor-row-requires : goal.xor-row-requires
-xor-row-requires c =
+pub xor_row-requires : goal.xor_row-requires
+xor_row-requires c =
     let w = row_words c.args.n in
     let r : w * suc c.args.town + w ≤ w * 601 = row_fits w c.args.town (omega arith) in
     let q : w * 1 ≤ w * suc c.args.town = mul-le w 1 w (suc c.args.town) (omega arith) (omega arith) in
@@ -19,16 +19,16 @@ returns c =
     let n = c.args.n in
     let t = c.args.town in
     let xs = c.args.state.now in
-    let ys = c.xor-row.new.words in
-    let at = c.row-at.result in
+    let ys = c.xor_row.new.words in
+    let at = c.row_at.result in
     let l : t < 600 = omega arith in
     let k : kept_length n ≤ length ys = omega arith in
-    let e = c.row-at.ensures in
-    let r = c.xor-row.ensures.rest in
+    let e = c.row_at.ensures in
+    let r = c.xor_row.ensures.rest in
     record {
       label = label_new n t c.args.new xs ys at l k e r;
       row = λ z h.
-          town_row_new n t c.args.new xs ys at l k e r z h ∙ c.xor-row.ensures.marks z (omega arith)
+          town_row_new n t c.args.new xs ys at l k e r z h ∙ c.xor_row.ensures.marks z (omega arith)
           ∙ ap (λ p. xor (word_row xs p z) (word_row xs 600 z)) e;
       work = work_kept n t c.args.new xs ys at l k e r;
       labels = label_kept n t c.args.new xs ys at l k e r;

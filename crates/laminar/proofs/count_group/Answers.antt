@@ -19,8 +19,8 @@ overflow-add-held c =
 pub loop-i-preserved : goal.loop-i-preserved
 loop-i-preserved c =
     let held = both (in_group c.args.file.now c.args.n c.args.at c.args.g) (marked c.args.set.now) in
-    let same : (c.in-group.result && c.contains.result) ≡ held c.loop-i.i =
-    ap₂ ◌&&◌ c.in-group.ensures (c.contains.ensures ∙ head_row c.args.set.now c.loop-i.i) in
+    let same : (c.in_group.result && c.contains.result) ≡ held c.loop-i.i =
+    ap₂ ◌&&◌ c.in_group.ensures (c.contains.ensures ∙ head_row c.args.set.now c.loop-i.i) in
     elim c.if-both.branch [
       | then-both w ↦ w.held-is ∙ size_in c.loop-i.i held c.loop-i.held c.loop-i.invariant (sym same ∙ w.if-both.true)
       | else-both w ↦ w.held-is ∙ size_out c.loop-i.i held c.loop-i.held c.loop-i.invariant (sym same ∙ w.if-both.false)

@@ -11,11 +11,11 @@ use Rattle.laminar.proofs.independent.Goals.{then-held-most-2, else-held-most-2}
 
 pub loop-g-init : goal.loop-g-init
 loop-g-init c =
-    ready_none c.args.file.now c.args.n c.args.at (marked c.args.set.now) c.clear-row.new.words (omega arith)
-    c.clear-row.ensures.marks
+    ready_none c.args.file.now c.args.n c.args.at (marked c.args.set.now) c.clear_row.new.words (omega arith)
+    c.clear_row.ensures.marks
 
-pub count-group-held-requires : goal.count-group-held-requires
-count-group-held-requires c =
+pub count_group-held-requires : goal.count_group-held-requires
+count_group-held-requires c =
     omega (arith, ends_before c.args.n c.args.at c.loop-g.g c.args.groups c.loop-g-test.true, c.requires.well.0.whole)
 
 pub limit-most-requires : goal.limit-most-requires
@@ -26,12 +26,12 @@ pub returns-then-held-most : goal.returns-then-held-most
 returns-then-held-most c = record {
   answers = sym (too_many c.args.n (in_group c.args.file.now c.args.n c.args.at) (limit c.args.file.now c.args.n c.args.at)
       c.args.groups (marked c.args.set.now) c.loop-g.g c.loop-g-test.true
-      (omega (arith, c.if-held-most.true, c.count-group-held.ensures, c.limit-most.ensures)));
+      (omega (arith, c.if-held-most.true, c.count_group-held.ensures, c.limit-most.ensures)));
   kept = λ e. absurd (both_ways false refl e);
 }
 
-pub mark-group-requires : goal.mark-group-requires
-mark-group-requires c =
+pub mark_group-requires : goal.mark_group-requires
+mark_group-requires c =
     omega (arith, ends_before c.args.n c.args.at c.loop-g.g c.args.groups c.loop-g-test.true, c.requires.well.0.whole, c.requires.well.0.few)
 
 pub loop-g-preserved : goal.loop-g-preserved
@@ -42,14 +42,14 @@ loop-g-preserved c =
     let g = c.loop-g.g in
     let s = marked c.args.set.now in
     let few : size n (both (in_group file n at g) s) ≤ limit file n at g =
-    omega (arith, c.if-held-most.false, c.count-group-held.ensures, c.limit-most.ensures) in
+    omega (arith, c.if-held-most.false, c.count_group-held.ensures, c.limit-most.ensures) in
     let P : List ℕ → Type 0 = Ready file n (g + 1) at s in
     elim c.if-held-most-2.branch [
       | then-held-most-2 w ↦ subst P (sym w.state-is)
-          (ready_full file n g at s c.loop-g.state c.mark-group.new.state w.insert.new.words (omega arith) c.loop-g.invariant c.mark-group.ensures
-          (omega (arith, w.insert.auto.words, c.mark-group.auto.state, c.loop-g.invariant.long)) (sym c.count-group-held.ensures ∙ (w.if-held-most-2.true ∙ c.limit-most.ensures)) w.insert.ensures.marks)
+          (ready_full file n g at s c.loop-g.state c.mark_group.new.state w.insert.new.words (omega arith) c.loop-g.invariant c.mark_group.ensures
+          (omega (arith, w.insert.auto.words, c.mark_group.auto.state, c.loop-g.invariant.long)) (sym c.count_group-held.ensures ∙ (w.if-held-most-2.true ∙ c.limit-most.ensures)) w.insert.ensures.marks)
       | else-held-most-2 w ↦ subst P (sym w.state-is)
-          (ready_open file n g at s c.loop-g.state c.mark-group.new.state c.loop-g.invariant c.mark-group.ensures
-          (omega (arith, c.mark-group.auto.state, c.loop-g.invariant.long))
-          (λ e. w.if-held-most-2.false (c.count-group-held.ensures ∙ (e ∙ sym c.limit-most.ensures))) few)
+          (ready_open file n g at s c.loop-g.state c.mark_group.new.state c.loop-g.invariant c.mark_group.ensures
+          (omega (arith, c.mark_group.auto.state, c.loop-g.invariant.long))
+          (λ e. w.if-held-most-2.false (c.count_group-held.ensures ∙ (e ∙ sym c.limit-most.ensures))) few)
     ]

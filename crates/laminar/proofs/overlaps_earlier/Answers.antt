@@ -5,11 +5,11 @@ use Rattle.laminar.specs.Reading.{overlaps}
 use Rattle.laminar.proofs.Steps.{some_more, ends_before}
 use Rattle.laminar.proofs.overlaps_earlier.Goals as goal
 
-pub group-at-requires : goal.group-at-requires
-group-at-requires c = omega (arith, ends_before c.args.n c.args.at c.loop-h.h c.args.g c.loop-h-test.true)
+pub group_at-requires : goal.group_at-requires
+group_at-requires c = omega (arith, ends_before c.args.n c.args.at c.loop-h.h c.args.g c.loop-h-test.true)
 
-pub overflow-add-group-at : goal.overflow-add-group-at
-overflow-add-group-at c = omega (arith, ends_before c.args.n c.args.at c.loop-h.h c.args.g c.loop-h-test.true)
+pub overflow-add-group_at : goal.overflow-add-group_at
+overflow-add-group_at c = omega (arith, ends_before c.args.n c.args.at c.loop-h.h c.args.g c.loop-h-test.true)
 
 pub overlap-found-requires : goal.overlap-found-requires
 overlap-found-requires c = omega (arith, ends_before c.args.n c.args.at c.loop-h.h c.args.g c.loop-h-test.true)
@@ -21,4 +21,4 @@ loop-h-preserved c =
     some_more c.loop-h.h (λ h. overlaps c.args.n (group h) (group c.args.g)) c.loop-h.found c.overlap-found.result
     c.loop-h.invariant
     (c.overlap-found.ensures ∙
-    ap₂ (λ (a b : ℕ). overlaps c.args.n (row file (a + 2)) (row file (b + 2))) c.group-at.ensures c.group-at-in-loop-h.ensures)
+    ap₂ (λ (a b : ℕ). overlaps c.args.n (row file (a + 2)) (row file (b + 2))) c.group_at.ensures c.group_at-in-loop-h.ensures)

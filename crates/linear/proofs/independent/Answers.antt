@@ -23,8 +23,8 @@ loop-x-preserved c =
 pub returns : goal.returns
 returns c =
     let allowed = dual_allows c.args.file.now c.args.n c.args.prime c.args.len c.args.at c.requires.well.0 (marked c.args.set.now)
-    (functional c.note-spanned.new.state) c.note-spanned.ensures.dual in
-    record { answers = sym allowed; ready = λ _. record { fits = omega arith; dual = c.note-spanned.ensures.dual; spans = c.note-spanned.ensures.flags; allowed = allowed } }
+    (functional c.note_spanned.new.state) c.note_spanned.ensures.dual in
+    record { answers = sym allowed; ready = λ _. record { fits = omega arith; dual = c.note_spanned.ensures.dual; spans = c.note_spanned.ensures.flags; allowed = allowed } }
 
 pub returns-then-not-insert : goal.returns-then-not-insert
 returns-then-not-insert c =

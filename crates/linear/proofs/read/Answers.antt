@@ -3,6 +3,6 @@ use Rattle.std.proofs.Common.{◌+◌, get_or, arith}
 use Rattle.std.proofs.lemmas.Nat.{mul-le}
 use Rattle.linear.proofs.read.Goals as goal
 
-pub check-numbers-requires : goal.check-numbers-requires
-check-numbers-requires c =
+pub check_numbers-requires : goal.check_numbers-requires
+check_numbers-requires c =
     (omega arith, mul-le c.args.n (get_or c.args.file.now (c.args.p + 1) 0) 600 64 c.requires.0 c.if-len-gt64.false)

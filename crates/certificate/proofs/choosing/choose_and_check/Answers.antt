@@ -7,48 +7,48 @@ use Rattle.certificate.proofs.Admission.{when_admitted, sheet_admitted, room, en
 use Rattle.certificate.proofs.Accepted.{choice_of}
 use Rattle.certificate.proofs.choosing.choose_and_check.Goals as goal
 
-pub returns-in-err-answer : goal.returns-in-err-answer
-returns-in-err-answer c =
-    let p = err_from_is_err_and c.from-residual-in-err-answer.result c.from-residual-in-err-answer.ensures.1 in
-    let b = c.in-err-answer.ensures in
-    let problem = c.in-ok-problem.problem in
-    let l : longest problem.n ≤ length c.args.sheet.now = omega (arith, c.row-at.ensures.exact) in
+pub returns-in_err-answer : goal.returns-in_err-answer
+returns-in_err-answer c =
+    let p = err_from_is_err_and c.from_residual-in_err-answer.result c.from_residual-in_err-answer.ensures.1 in
+    let b = c.in_err-answer.ensures in
+    let problem = c.in_ok-problem.problem in
+    let l : longest problem.n ≤ length c.args.sheet.now = omega (arith, c.row_at.ensures.exact) in
     let a = sheet_admitted c.args.file.now (length c.args.sets.now) (length c.args.numbers.now) (length c.args.sheet.now)
-    (length c.args.work.now) problem (sym c.in-ok-problem.ensures.answer) l ∙ b.0 in
+    (length c.args.work.now) problem (sym c.in_ok-problem.ensures.answer) l ∙ b.0 in
     rw (p.1, p.2) (record { accepted = sym (ap (λ (r : Result Problem Refusal). is_ok r) a); answer = (a, b.1, b.2, refl, b.3) })
 
-pub write-and-check-requires : goal.write-and-check-requires
-write-and-check-requires c =
+pub write_and_check-requires : goal.write_and_check-requires
+write_and_check-requires c =
     let file = c.args.file.now in
-    let problem = c.in-ok-problem.problem in
-    let size = c.in-ok-answer.answer.size in
-    let h = c.in-ok-answer.ensures in
-    let l : longest problem.n ≤ length c.args.sheet.now = omega (arith, c.row-at.ensures.exact) in
+    let problem = c.in_ok-problem.problem in
+    let size = c.in_ok-answer.answer.size in
+    let h = c.in_ok-answer.ensures in
+    let l : longest problem.n ≤ length c.args.sheet.now = omega (arith, c.row_at.ensures.exact) in
     let a = when_admitted file (length c.args.sets.now) (length c.args.numbers.now) (length c.args.work.now) problem h.0
-    (sym c.in-ok-problem.ensures.answer) h.1 in
-    let o = choice_of file problem h.0 size c.in-ok-answer.answer.rounds c.in-ok-answer.answer.calls c.args.sets.now
+    (sym c.in_ok-problem.ensures.answer) h.1 in
+    let o = choice_of file problem h.0 size c.in_ok-answer.answer.rounds c.in_ok-answer.answer.calls c.args.sets.now
     c.args.numbers.now c.choose.new.sets c.choose.new.numbers a.0 h.2 in
     let r = room problem.n size (length c.args.sets.now) (length c.args.numbers.now) (length c.args.sheet.now) o.at_most_all a.1 a.2 l in
     let w = enough_work problem.n (length c.args.work.now) a.3 in
     record {
-      choice = (c.in-ok-problem.ensures.meaning, (o.chosen, o.at_most_all));
+      choice = (c.in_ok-problem.ensures.meaning, (o.chosen, o.at_most_all));
       lengths = (omega (arith, r.0), (omega (arith, r.1), (r.2, omega (arith, w))));
     }
 
 pub returns : goal.returns
 returns c =
     let file = c.args.file.now in
-    let problem = c.in-ok-problem.problem in
-    let size = c.in-ok-answer.answer.size in
-    let h = c.in-ok-answer.ensures in
-    let l : longest problem.n ≤ length c.args.sheet.now = omega (arith, c.row-at.ensures.exact) in
+    let problem = c.in_ok-problem.problem in
+    let size = c.in_ok-answer.answer.size in
+    let h = c.in_ok-answer.ensures in
+    let l : longest problem.n ≤ length c.args.sheet.now = omega (arith, c.row_at.ensures.exact) in
     let a = when_admitted file (length c.args.sets.now) (length c.args.numbers.now) (length c.args.work.now) problem h.0
-    (sym c.in-ok-problem.ensures.answer) h.1 in
-    let o = choice_of file problem h.0 size c.in-ok-answer.answer.rounds c.in-ok-answer.answer.calls c.args.sets.now
+    (sym c.in_ok-problem.ensures.answer) h.1 in
+    let o = choice_of file problem h.0 size c.in_ok-answer.answer.rounds c.in_ok-answer.answer.calls c.args.sets.now
     c.args.numbers.now c.choose.new.sets c.choose.new.numbers a.0 h.2 in
     let d = sheet_admitted file (length c.args.sets.now) (length c.args.numbers.now) (length c.args.sheet.now) (length c.args.work.now)
-    problem (sym c.in-ok-problem.ensures.answer) l ∙ h.1 ∙ ap Ok a.0 in
-    let w = c.write-and-check.ensures in
+    problem (sym c.in_ok-problem.ensures.answer) l ∙ h.1 ∙ ap Ok a.0 in
+    let w = c.write_and_check.ensures in
     rw w.answer (record {
       accepted = sym (ap (λ (r : Result Problem Refusal). is_ok r) d);
       answer = (problem, d, record { choice = o; written = w.written; behind = w.behind; valid = w.valid });

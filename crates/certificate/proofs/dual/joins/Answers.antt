@@ -13,7 +13,7 @@ returns-then-contains c =
     let n = c.args.problem.n in
     let sheet = c.args.sheet.now in
     joins_chosen (by_first c.args.file.now c.args.problem) (by_second c.args.file.now c.args.problem) (largest_set n sheet) (dual_set n sheet) c.args.x
-    (sym (c.contains.ensures ∙ ap (λ (at : ℕ). row sheet at c.args.x) c.row-at.ensures.exact) ∙ c.if-contains.true)
+    (sym (c.contains.ensures ∙ ap (λ (at : ℕ). row sheet at c.args.x) c.row_at.ensures.exact) ∙ c.if-contains.true)
 
 pub returns-then-contains-2 : goal.returns-then-contains-2
 returns-then-contains-2 c =
@@ -23,8 +23,8 @@ returns-then-contains-2 c =
     let u = dual_set n sheet in
     let x = c.args.x in
     joins_within (by_first c.args.file.now c.args.problem) (by_second c.args.file.now c.args.problem) s u x
-    (sym (c.contains-2.ensures ∙ ap (λ (at : ℕ). row sheet at x) c.row-at-2.ensures.exact) ∙ c.if-contains-2.true)
-    (sym (c.contains.ensures ∙ ap (λ (at : ℕ). row sheet at x) c.row-at.ensures.exact) ∙ c.if-contains.false)
+    (sym (c.contains-2.ensures ∙ ap (λ (at : ℕ). row sheet at x) c.row_at-2.ensures.exact) ∙ c.if-contains-2.true)
+    (sym (c.contains.ensures ∙ ap (λ (at : ℕ). row sheet at x) c.row_at.ensures.exact) ∙ c.if-contains.false)
     c.can_add.result
     (c.can_add.ensures ∙ with_alike (rule_matroid c.args.file.now n c.args.problem.first c.requires.usable.0.first) (both s u) (marked c.args.inside.now) x c.requires.inner)
 
@@ -36,7 +36,7 @@ returns c =
     let u = dual_set n sheet in
     let x = c.args.x in
     joins_beyond (by_first c.args.file.now c.args.problem) (by_second c.args.file.now c.args.problem) s u x
-    (sym (c.contains-2.ensures ∙ ap (λ (at : ℕ). row sheet at x) c.row-at-2.ensures.exact) ∙ c.if-contains-2.false)
-    (sym (c.contains.ensures ∙ ap (λ (at : ℕ). row sheet at x) c.row-at.ensures.exact) ∙ c.if-contains.false)
-    c.can-add-2.result
-    (c.can-add-2.ensures ∙ with_alike (rule_matroid c.args.file.now n c.args.problem.second c.requires.usable.0.second) (outside s u) (marked c.args.beyond.now) x c.requires.outer)
+    (sym (c.contains-2.ensures ∙ ap (λ (at : ℕ). row sheet at x) c.row_at-2.ensures.exact) ∙ c.if-contains-2.false)
+    (sym (c.contains.ensures ∙ ap (λ (at : ℕ). row sheet at x) c.row_at.ensures.exact) ∙ c.if-contains.false)
+    c.can_add-2.result
+    (c.can_add-2.ensures ∙ with_alike (rule_matroid c.args.file.now n c.args.problem.second c.requires.usable.0.second) (outside s u) (marked c.args.beyond.now) x c.requires.outer)

@@ -7,15 +7,15 @@ use Rattle.certificate.proofs.Sides.{Sided, side_removed, side_kept, differ, agr
 use Rattle.certificate.proofs.dual.load_side.Goals as goal
 use Rattle.certificate.proofs.dual.load_side.Goals.{then-contains-inner, else-contains-inner}
 
-pub load-row-requires : goal.load-row-requires
-load-row-requires c =
-    let e = c.row-at.ensures.exact in
+pub load_row-requires : goal.load_row-requires
+load_row-requires c =
+    let e = c.row_at.ensures.exact in
     let a = row_apart c.args.n 0 2 (omega arith) in
     (omega arith, (omega arith, omega arith))
 
 pub contains-requires : goal.contains-requires
 contains-requires c =
-    let e = c.row-at-dual.ensures.exact in
+    let e = c.row_at-dual.ensures.exact in
     let a = row_apart c.args.n 1 2 (omega arith) in
     omega arith
 
@@ -23,8 +23,8 @@ pub loop-x-init : goal.loop-x-init
 loop-x-init c = (
   λ v l. absurd (omega arith),
   λ v l b.
-      loaded_offer c.args.n c.load-row.new.words c.args.sheet.now c.row-at.result c.load-row.ensures.marks v b ∙
-      ap (λ (at : ℕ). row c.args.sheet.now at v) c.row-at.ensures.exact,
+      loaded_offer c.args.n c.load_row.new.words c.args.sheet.now c.row_at.result c.load_row.ensures.marks v b ∙
+      ap (λ (at : ℕ). row c.args.sheet.now at v) c.row_at.ensures.exact,
 )
 
 pub loop-x-preserved : goal.loop-x-preserved
@@ -33,7 +33,7 @@ loop-x-preserved c =
     let s = largest_set n c.args.sheet.now in
     let u = dual_set n c.args.sheet.now in
     let x = c.loop-x.x in
-    let e : c.contains.result ≡ u x = c.contains.ensures ∙ ap (λ (at : ℕ). row c.args.sheet.now at x) c.row-at-dual.ensures.exact in
+    let e : c.contains.result ≡ u x = c.contains.ensures ∙ ap (λ (at : ℕ). row c.args.sheet.now at x) c.row_at-dual.ensures.exact in
     elim c.if-contains-inner.branch [
       | then-contains-inner w ↦
           subst (λ (m : List ℕ). Sided n c.args.inner s u (marked m) (x + 1)) (sym w.set-is)

@@ -7,39 +7,39 @@ use Rattle.certificate.specs.Layout.{row_at, count, needed, Clean}
 use Rattle.certificate.proofs.Bytes.{first_row_fault, first_length_fault, no_byte_fault}
 use Rattle.certificate.proofs.layout.check_layout.Goals as goal
 
-pub returns-in-err-check-rows : goal.returns-in-err-check-rows
-returns-in-err-check-rows c =
-    let p = err_from_is_err_and c.from-residual.result c.from-residual.ensures.1 in
-    let f = c.in-err-check-rows.ensures in
+pub returns-in_err-check_rows : goal.returns-in_err-check_rows
+returns-in_err-check_rows c =
+    let p = err_from_is_err_and c.from_residual.result c.from_residual.ensures.1 in
+    let f = c.in_err-check_rows.ensures in
     rw (p.1, p.2)
-    (first_row_fault c.args.n c.args.sheet.now f.0 c.in-err-check-rows.field-0.0 c.requires.0 (omega arith) f.2 f.3)
+    (first_row_fault c.args.n c.args.sheet.now f.0 c.in_err-check_rows.field-0.0 c.requires.0 (omega arith) f.2 f.3)
 
-pub returns-in-err-check-rows-2 : goal.returns-in-err-check-rows-2
-returns-in-err-check-rows-2 c =
-    let p = err_from_is_err_and c.from-residual-in-err-check-rows-2.result c.from-residual-in-err-check-rows-2.ensures.1 in
-    let f = c.in-err-check-rows-2.ensures in
-    let h : f.0 < count c.args.n c.args.sheet.now + 2 = omega (arith, c.count-sizes-count.ensures.exact) in
+pub returns-in_err-check_rows-2 : goal.returns-in_err-check_rows-2
+returns-in_err-check_rows-2 c =
+    let p = err_from_is_err_and c.from_residual-in_err-check_rows-2.result c.from_residual-in_err-check_rows-2.ensures.1 in
+    let f = c.in_err-check_rows-2.ensures in
+    let h : f.0 < count c.args.n c.args.sheet.now + 2 = omega (arith, c.count_sizes-count.ensures.exact) in
     rw (p.1, p.2)
-    (first_row_fault c.args.n c.args.sheet.now f.0 c.in-err-check-rows-2.field-0.0 c.requires.0 h f.2 f.3)
+    (first_row_fault c.args.n c.args.sheet.now f.0 c.in_err-check_rows-2.field-0.0 c.requires.0 h f.2 f.3)
 
 pub returns-then-sheet-needed : goal.returns-then-sheet-needed
 returns-then-sheet-needed c =
     let n = c.args.n in
     let sheet = c.args.sheet.now in
-    let k : c.count-sizes-count.result ≡ count n sheet = c.count-sizes-count.ensures.exact in
-    let e : c.row-at-needed.result ≡ needed n sheet = c.row-at-needed.ensures.exact ∙ ap (λ (m : ℕ). row_at n (m + 2)) k in
+    let k : c.count_sizes-count.result ≡ count n sheet = c.count_sizes-count.ensures.exact in
+    let e : c.row_at-needed.result ≡ needed n sheet = c.row_at-needed.ensures.exact ∙ ap (λ (m : ℕ). row_at n (m + 2)) k in
     let m : min (length sheet) (needed n sheet) ≡ c.min.result = ap (min (length sheet)) (sym e) ∙ sym c.min.ensures in
     subst (λ (p : ℕ). Earliest (ByteFault n sheet) (Length Certificate p)) m
     (first_length_fault n sheet (λ d. c.if-sheet-needed.true (d ∙ sym e))
-    (λ i h. c.in-ok-check-rows-2.ensures i (subst (λ (m : ℕ). i < m + 2) (sym k) h)))
+    (λ i h. c.in_ok-check_rows-2.ensures i (subst (λ (m : ℕ). i < m + 2) (sym k) h)))
 
 pub returns : goal.returns
 returns c =
     let n = c.args.n in
     let sheet = c.args.sheet.now in
-    let k : c.count-sizes-count.result ≡ count n sheet = c.count-sizes-count.ensures.exact in
-    let e : c.row-at-needed.result ≡ needed n sheet = c.row-at-needed.ensures.exact ∙ ap (λ (m : ℕ). row_at n (m + 2)) k in (
+    let k : c.count_sizes-count.result ≡ count n sheet = c.count_sizes-count.ensures.exact in
+    let e : c.row_at-needed.result ≡ needed n sheet = c.row_at-needed.ensures.exact ∙ ap (λ (m : ℕ). row_at n (m + 2)) k in (
       k,
       no_byte_fault n sheet (c.if-sheet-needed.false ∙ e)
-          (λ i h. c.in-ok-check-rows-2.ensures i (subst (λ (m : ℕ). i < m + 2) (sym k) h)),
+          (λ i h. c.in_ok-check_rows-2.ensures i (subst (λ (m : ℕ). i < m + 2) (sym k) h)),
     )

@@ -7,12 +7,12 @@ use Rattle.certificate.proofs.layout.count_sizes.Goals as goal
 
 pub count-requires : goal.count-requires
 count-requires c =
-    let e = c.row-at.ensures.exact in
+    let e = c.row_at.ensures.exact in
     let w : row_at c.args.n 0 + row_bytes c.args.n ≤ length c.args.sheet.now = c.requires.1.whole in
     omega arith
 
 pub returns : goal.returns
 returns c =
-    let e = c.count.ensures ∙ ap (λ at. size c.args.n (row c.args.sheet.now at)) c.row-at.ensures.exact in
+    let e = c.count.ensures ∙ ap (λ at. size c.args.n (row c.args.sheet.now at)) c.row_at.ensures.exact in
     let b = size_bound c.args.n (largest_set c.args.n c.args.sheet.now) in
     record { exact = e; few = omega arith }

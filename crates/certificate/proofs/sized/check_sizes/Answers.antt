@@ -12,12 +12,12 @@ pub loop-k-preserved : goal.loop-k-preserved
 loop-k-preserved c =
     below_more
     (λ (k : ℕ). 1 ≤ k → Right c.args.problem.n (by_first c.args.file.now c.args.problem) (by_second c.args.file.now c.args.problem) (weight_of c.args.file.now) c.args.sheet.now k)
-    c.loop-k.k c.loop-k.invariant (λ _. c.in-ok-check-size.ensures)
+    c.loop-k.k c.loop-k.invariant (λ _. c.in_ok-check_size.ensures)
 
-pub returns-in-err-check-size : goal.returns-in-err-check-size
-returns-in-err-check-size c =
-    let p = err_from_is_err_and c.from-residual.result c.from-residual.ensures.1 in
-    rw (p.1, p.2) (c.loop-k.k, c.loop-k.auto.k, c.loop-k-test.true, c.in-err-check-size.ensures, c.loop-k.invariant)
+pub returns-in_err-check_size : goal.returns-in_err-check_size
+returns-in_err-check_size c =
+    let p = err_from_is_err_and c.from_residual.result c.from_residual.ensures.1 in
+    rw (p.1, p.2) (c.loop-k.k, c.loop-k.auto.k, c.loop-k-test.true, c.in_err-check_size.ensures, c.loop-k.invariant)
 
 pub returns : goal.returns
 returns c = λ k h l. c.loop-k.invariant k (omega arith) l

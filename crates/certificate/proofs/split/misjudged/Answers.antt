@@ -17,7 +17,7 @@ returns-then-not-splits c =
     let q = part c.args.sheet.now (c.args.at + 8) in
     judged_by_sum n (allows file n c.args.problem.first) (allows file n c.args.problem.second) (weight_of file) p q (marked c.args.set.now) c.args.x
     c.splits.result
-    (subst (λ (w : ℕ). Decides c.splits.result (p c.args.x +ℤ q c.args.x ≡ pos w)) c.read-u32-weight.ensures c.splits.ensures)
+    (subst (λ (w : ℕ). Decides c.splits.result (p c.args.x +ℤ q c.args.x ≡ pos w)) c.read_u32-weight.ensures c.splits.ensures)
     c.if-not-splits.true
 
 pub returns-then-contains : goal.returns-then-contains
@@ -29,7 +29,7 @@ returns-then-contains c =
     let e : 32 * 0 + c.args.x ≡ c.args.x = omega arith in
     judged_chosen n (allows file n c.args.problem.first) (allows file n c.args.problem.second) (weight_of file) p q (marked c.args.set.now) c.args.x
     (sym (ap (marked c.args.set.now) e) ∙ sym c.contains.ensures ∙ c.if-contains.true)
-    (c.splits.ensures.0 c.if-not-splits.false ∙ ap pos c.read-u32-weight.ensures)
+    (c.splits.ensures.0 c.if-not-splits.false ∙ ap pos c.read_u32-weight.ensures)
 
 pub returns-then-outdoes : goal.returns-then-outdoes
 returns-then-outdoes c =
@@ -52,6 +52,6 @@ returns c =
     judged_second n (allows file n c.args.problem.first) (allows file n c.args.problem.second) (weight_of file) p q (marked c.args.set.now) c.args.x
     (rule_matroid file n c.args.problem.first c.requires.usable.0.first) (rule_matroid file n c.args.problem.second c.requires.usable.0.second)
     (sym (ap (marked c.args.set.now) e) ∙ sym c.contains.ensures ∙ c.if-contains.false)
-    (c.splits.ensures.0 c.if-not-splits.false ∙ ap pos c.read-u32-weight.ensures)
+    (c.splits.ensures.0 c.if-not-splits.false ∙ ap pos c.read_u32-weight.ensures)
     (not_from_Decides c.outdoes.result c.outdoes.ensures c.if-outdoes.false)
     c.outdoes-2.result c.outdoes-2.ensures

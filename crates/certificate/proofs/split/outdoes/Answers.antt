@@ -8,7 +8,7 @@ use Rattle.sets.specs.Matroid.{with, without}
 use Rattle.matroid.specs.Rules.{allows}
 use Rattle.certificate.specs.Layout.{part}
 use Rattle.certificate.proofs.split.outdoes.Goals as goal
-use Rattle.certificate.proofs.split.outdoes.Goals.{else-contains-via-then-contains+then-number-own+else-can-exchange, else-contains-via-then-contains+else-number-own, else-contains-via-else-contains}
+use Rattle.certificate.proofs.split.outdoes.Goals.{else-contains-via-then-contains+then-number-own+else-can_exchange, else-contains-via-then-contains+else-number-own, else-contains-via-else-contains}
 
 pub loop-y-preserved : goal.loop-y-preserved
 loop-y-preserved c =
@@ -21,8 +21,8 @@ loop-y-preserved c =
     y c.loop-y.invariant
     (λ i l o.
     elim c.else-contains.branch [
-      | else-contains-via-then-contains+then-number-own+else-can-exchange w ↦
-          both_ways w.can_exchange.result w.if-can-exchange.false (w.can_exchange.ensures ∙ o)
+      | else-contains-via-then-contains+then-number-own+else-can_exchange w ↦
+          both_ways w.can_exchange.result w.if-can_exchange.false (w.can_exchange.ensures ∙ o)
       | else-contains-via-then-contains+else-number-own w ↦
           let u : SFits w64 w.number.result = search rules in
           let v : SFits w64 c.number-own.result = search rules in
@@ -37,8 +37,8 @@ pub returns : goal.returns
 returns c =
     ((λ e. absurd (false≢true e)), (λ o. absurd (c.loop-y.invariant o.0 (omega arith) o.2 o.3 o.4)))
 
-pub returns-then-can-exchange : goal.returns-then-can-exchange
-returns-then-can-exchange c =
+pub returns-then-can_exchange : goal.returns-then-can_exchange
+returns-then-can_exchange c =
     let set = c.args.set.now in
     let p : ℕ → ℤ = part c.args.sheet.now c.args.at in
     let y = c.loop-y.y in
@@ -48,6 +48,6 @@ returns-then-can-exchange c =
     let v : SFits w64 c.number-own.result = search rules in
     let h : lt_z c.number.result c.number-own.result ≡ true = simp to_z-of_z at c.if-number-own.true in
     let l : p y <ℤ p x = less c.number.result c.number-own.result (p y) (p x) h c.number.ensures c.number-own.ensures in (
-      (λ _. (y, c.loop-y-test.true, sym (c.contains.ensures ∙ ap (marked set) e) ∙ c.if-contains.true, l, sym c.can_exchange.ensures ∙ c.if-can-exchange.true)),
+      (λ _. (y, c.loop-y-test.true, sym (c.contains.ensures ∙ ap (marked set) e) ∙ c.if-contains.true, l, sym c.can_exchange.ensures ∙ c.if-can_exchange.true)),
       (λ _. refl),
     )

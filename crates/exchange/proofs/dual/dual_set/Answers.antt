@@ -7,7 +7,7 @@ use Rattle.exchange.proofs.dual.dual_set.Goals as goal
 
 pub loop-init : goal.loop-init
 loop-init c =
-    let same = copied_row c.args.n c.args.sinks.now c.copy-row.new.words c.copy-row.ensures.marks in
+    let same = copied_row c.args.n c.args.sinks.now c.copy_row.new.words c.copy_row.ensures.marks in
     ((λ x p h. same x p ∙ h), (λ t s b x p h. s x p (sym (same x p) ∙ h)))
 
 pub loop-smaller : goal.loop-smaller

@@ -62,6 +62,6 @@ returns c =
     record {
       cheapest = complete c.args.n _ _ _ (marked c.loop-v.settled) (marked c.loop-v.reached) (at c.loop-v.costs) (at c.loop-v.steps) (at c.loop-v.back)
           c.loop-v.invariant.0
-          (λ v p r. none_open (marked c.loop-v.reached v) (marked c.loop-v.settled v) (c.in-default.ensures v p) r);
+          (λ v p r. none_open (marked c.loop-v.reached v) (marked c.loop-v.settled v) (c.in_default.ensures v p) r);
       small = λ v p r. let s = c.loop-v.invariant.1 v p r in let l = size_le c.args.n (marked c.loop-v.settled) in (s.0, omega (arith, s.1));
     }

@@ -14,7 +14,7 @@ loop-v-preserved c =
     let d = at c.args.costs.now in
     let k = at c.args.steps.now in
     let Q : Option ℕ → Type 0 = SoFar (i + 1) among d k in
-    let far = c.next-open-v-in-loop-v.ensures in
+    let far = c.next_open-v-in-loop-v.ensures in
     let step : SoFar (i + 1) among d k c.if-nearer.least =
     elim c.if-nearer.branch [
       | then-nearer w ↦
@@ -24,7 +24,7 @@ loop-v-preserved c =
           subst Q (sym w.least-is) (stays i among d k c.loop-v.least c.nearer.result c.nearer.ensures w.if-nearer.false c.loop-v.invariant.1)
     ] in (
       far.within,
-      passed_over (i + 1) among d k c.if-nearer.least c.next-open-v-in-loop-v.result
-          (no_earlier (i + 1) c.next-open-v-in-loop-v.result c.args.n (omega arith) far.within (λ l. (far.found l).0)) far.skipped step,
+      passed_over (i + 1) among d k c.if-nearer.least c.next_open-v-in-loop-v.result
+          (no_earlier (i + 1) c.next_open-v-in-loop-v.result c.args.n (omega arith) far.within (λ l. (far.found l).0)) far.skipped step,
       λ l. (far.found l).1,
     )

@@ -11,10 +11,10 @@ loop-u-init c =
     let n = c.args.n in
     let to = table n c.args.arcs.now in
     let price = cost (marked c.args.set.now) (at c.args.weights.now) (at c.args.potentials.now) in
-    let far = c.next-head-u.ensures in (
+    let far = c.next_head-u.ensures in (
       far.within,
       partly_jump n to price (marked c.args.settled.now) (marked c.args.reached.now) (at c.args.costs.now) (at c.args.steps.now)
-          (at c.args.back.now) c.args.v 0 c.next-head-u.result (marked c.args.reached.now) (at c.args.costs.now) (at c.args.steps.now)
+          (at c.args.back.now) c.args.v 0 c.next_head-u.result (marked c.args.reached.now) (at c.args.costs.now) (at c.args.steps.now)
           (at c.args.back.now) far.skipped (omega arith) (partly_none n to price _ _ _ _ _ _),
       λ l. (far.found l).1,
     )
@@ -26,12 +26,12 @@ loop-u-preserved c =
     let price = cost (marked c.args.set.now) (at c.args.weights.now) (at c.args.potentials.now) in
     let settled = marked c.args.settled.now in
     let u = c.loop-u.u in
-    let far = c.next-head-u-in-loop-u.ensures in
+    let far = c.next_head-u-in-loop-u.ensures in
     let here = open_parts (to c.args.v u) (settled u) (c.loop-u.invariant.2 c.loop-u-test.true) in (
       far.within,
       partly_jump n to price settled (marked c.args.reached.now) (at c.args.costs.now) (at c.args.steps.now) (at c.args.back.now) c.args.v
-          (u + 1) c.next-head-u-in-loop-u.result (marked c.improve.new.reached) (at c.improve.new.costs) (at c.improve.new.steps) (at c.improve.new.back)
-          far.skipped (no_earlier (u + 1) c.next-head-u-in-loop-u.result n (omega arith) far.within (λ l. (far.found l).0))
+          (u + 1) c.next_head-u-in-loop-u.result (marked c.improve.new.reached) (at c.improve.new.costs) (at c.improve.new.steps) (at c.improve.new.back)
+          far.skipped (no_earlier (u + 1) c.next_head-u-in-loop-u.result n (omega arith) far.within (λ l. (far.found l).0))
           (partly_step n to price settled (marked c.args.reached.now) (at c.args.costs.now) (at c.args.steps.now) (at c.args.back.now) c.args.v u
           (marked c.loop-u.reached) (at c.loop-u.costs) (at c.loop-u.steps) (at c.loop-u.back)
           (marked c.improve.new.reached) (at c.improve.new.costs) (at c.improve.new.steps) (at c.improve.new.back)

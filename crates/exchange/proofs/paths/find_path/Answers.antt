@@ -20,8 +20,8 @@ tables-asked-requires c =
       allowed = (st.1.first, st.1.second);
     }
 
-pub best-end-end-requires : goal.best-end-end-requires
-best-end-end-requires c =
+pub best_end-end-requires : goal.best_end-end-requires
+best_end-end-requires c =
     let z = c.requires.sizes in
     record {
       rows = (z.0, (omega (arith, c.tables-asked.auto.sinks, c.requires.rows.1.0), omega (arith, c.label.auto.reached, c.requires.rows.1.1.1.0)));
@@ -48,8 +48,8 @@ label-requires c =
       begins = sources_free n f g s c.tables-asked.new.arcs c.tables-asked.new.sources c.tables-asked.new.sinks holds w a st.0 st.1;
     }
 
-pub returns-then-is-none : goal.returns-then-is-none
-returns-then-is-none c =
+pub returns-then-is_none : goal.returns-then-is_none
+returns-then-is_none c =
     let n = c.args.n in
     let f = allows c.args.file.now n c.args.first in
     let g = allows c.args.file.now n c.args.second in
@@ -70,21 +70,21 @@ returns-then-is-none c =
     (priced n f g s arcs sources sinks holds w a st.0 st.1 st.2 c.requires.light) in
     let es =
     none_ends n f g s arcs sources sinks holds w a reached d k back c.label.ensures.cheapest (marked c.dual_set.new.dual)
-    c.best-end-end.result (c.is-none.ensures ∙ ap not c.if-is-none.true) c.best-end-end.ensures c.dual_set.ensures in
+    c.best_end-end.result (c.is_none.ensures ∙ ap not c.if-is_none.true) c.best_end-end.ensures c.dual_set.ensures in
     record {
       asked = c.tables-asked.ensures.asked;
       tables = holds;
       labels = ls;
       small = c.label.ensures.small;
       ends = es;
-      within = ends_within n f g s arcs sources sinks holds w a reached d k back c.label.ensures.cheapest c.best-end-end.result c.best-end-end.ensures;
-      best = found n f g w a st.0 s reached d k back (marked c.dual_set.new.dual) c.best-end-end.result (rule_matroid c.args.file.now n c.args.first c.requires.well.0)
+      within = ends_within n f g s arcs sources sinks holds w a reached d k back c.label.ensures.cheapest c.best_end-end.result c.best_end-end.ensures;
+      best = found n f g w a st.0 s reached d k back (marked c.dual_set.new.dual) c.best_end-end.result (rule_matroid c.args.file.now n c.args.first c.requires.well.0)
           (rule_matroid c.args.file.now n c.args.second c.requires.well.1) c.requires.light st.1 ls es;
       kept = c.tables-asked.ensures.kept;
     }
 
-pub returns-else-is-none : goal.returns-else-is-none
-returns-else-is-none c =
+pub returns-else-is_none : goal.returns-else-is_none
+returns-else-is_none c =
     let n = c.args.n in
     let f = allows c.args.file.now n c.args.first in
     let g = allows c.args.file.now n c.args.second in
@@ -105,15 +105,15 @@ returns-else-is-none c =
     (priced n f g s arcs sources sinks holds w a st.0 st.1 st.2 c.requires.light) in
     let es =
     some_ends n f g s arcs sources sinks holds w a reached d k back c.label.ensures.cheapest (marked c.args.dual.now)
-    c.best-end-end.result (c.is-none.ensures ∙ ap not c.if-is-none.false) c.best-end-end.ensures in
+    c.best_end-end.result (c.is_none.ensures ∙ ap not c.if-is_none.false) c.best_end-end.ensures in
     record {
       asked = c.tables-asked.ensures.asked;
       tables = holds;
       labels = ls;
       small = c.label.ensures.small;
       ends = es;
-      within = ends_within n f g s arcs sources sinks holds w a reached d k back c.label.ensures.cheapest c.best-end-end.result c.best-end-end.ensures;
-      best = found n f g w a st.0 s reached d k back (marked c.args.dual.now) c.best-end-end.result (rule_matroid c.args.file.now n c.args.first c.requires.well.0)
+      within = ends_within n f g s arcs sources sinks holds w a reached d k back c.label.ensures.cheapest c.best_end-end.result c.best_end-end.ensures;
+      best = found n f g w a st.0 s reached d k back (marked c.args.dual.now) c.best_end-end.result (rule_matroid c.args.file.now n c.args.first c.requires.well.0)
           (rule_matroid c.args.file.now n c.args.second c.requires.well.1) c.requires.light st.1 ls es;
       kept = c.tables-asked.ensures.kept;
     }

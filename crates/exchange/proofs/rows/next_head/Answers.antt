@@ -4,8 +4,8 @@ use Rattle.exchange.specs.Graph.{table}
 use Rattle.exchange.proofs.Cells.{next_row}
 use Rattle.exchange.proofs.rows.next_head.Goals as goal
 
-pub next-outside-requires : goal.next-outside-requires
-next-outside-requires c =
+pub next_outside-requires : goal.next_outside-requires
+next_outside-requires c =
     let r = (c.args.n + 31) / 32 in
     let m : r * (c.args.v + 1) ≤ r * c.args.n = mul-le r (c.args.v + 1) r c.args.n (omega arith) (omega arith) in
     let e = next_row r c.args.v in
@@ -13,4 +13,4 @@ next-outside-requires c =
 
 pub returns : goal.returns
 unfolding table
-returns c = c.next-outside.ensures
+returns c = c.next_outside.ensures

@@ -14,7 +14,7 @@ loop-x-preserved c = λ j h.
     let x = c.loop-x.x in
     let said : c.if-not-holds.there ≡ addable f s x =
     elim c.if-not-holds.branch [
-      | then-not-holds w ↦ w.there-is ∙ addable_said f s x _ (sym c.holds.ensures ∙ w.if-not-holds.true) w.can-add-there.ensures
+      | then-not-holds w ↦ w.there-is ∙ addable_said f s x _ (sym c.holds.ensures ∙ w.if-not-holds.true) w.can_add-there.ensures
       | else-not-holds w ↦ w.there-is ∙ ap not w.if-not-holds.false ∙ sym (addable_not f s x (sym c.holds.ensures ∙ w.if-not-holds.false))
     ] in
     written (marked c.put.new.row) (marked c.loop-x.row) (addable f s) x c.if-not-holds.there j (c.put.ensures j) said h

@@ -19,14 +19,14 @@ small s n v asked r p q h e =
 
 pub overflow-add-asked : goal.overflow-add-asked
 overflow-add-asked c =
-    let l = small (marked c.args.set.now) c.args.n c.loop-v.v c.loop-v.asked c.arcs-from-asked.result
-    c.requires.sizes.0 c.loop-v-test.true c.loop-v.invariant.1 c.arcs-from-asked.ensures.asked in
+    let l = small (marked c.args.set.now) c.args.n c.loop-v.v c.loop-v.asked c.arcs_from-asked.result
+    c.requires.sizes.0 c.loop-v-test.true c.loop-v.invariant.1 c.arcs_from-asked.ensures.asked in
     omega arith
 
 pub overflow-add-asked-else-holds : goal.overflow-add-asked-else-holds
 overflow-add-asked-else-holds c =
-    let l = small (marked c.args.set.now) c.args.n c.loop-v.v c.loop-v.asked c.arcs-from-asked-else-holds.result
-    c.requires.sizes.0 c.loop-v-test.true c.loop-v.invariant.1 c.arcs-from-asked-else-holds.ensures.asked in
+    let l = small (marked c.args.set.now) c.args.n c.loop-v.v c.loop-v.asked c.arcs_from-asked-else-holds.result
+    c.requires.sizes.0 c.loop-v-test.true c.loop-v.invariant.1 c.arcs_from-asked-else-holds.ensures.asked in
     omega arith
 
 -- the invariant with one row more, where the table and the count go by other names
@@ -50,13 +50,13 @@ loop-v-preserved c =
     let v = c.loop-v.v in
     elim c.if-holds.branch [
       | then-holds w ↦
-          step n f g s v c.loop-v.arcs w.arcs-from-asked.new.arcs c.if-holds.arcs c.loop-v.asked w.arcs-from-asked.result
+          step n f g s v c.loop-v.arcs w.arcs_from-asked.new.arcs c.if-holds.arcs c.loop-v.asked w.arcs_from-asked.result
           c.if-holds.asked c.loop-v-test.true w.arcs-is w.asked-is
-          (λ u p. w.arcs-from-asked.ensures.row u p ∙ arc_by_first f g s v u (sym c.holds.ensures ∙ w.if-holds.true))
-          w.arcs-from-asked.ensures.rest w.arcs-from-asked.ensures.asked c.loop-v.invariant
+          (λ u p. w.arcs_from-asked.ensures.row u p ∙ arc_by_first f g s v u (sym c.holds.ensures ∙ w.if-holds.true))
+          w.arcs_from-asked.ensures.rest w.arcs_from-asked.ensures.asked c.loop-v.invariant
       | else-holds w ↦
-          step n f g s v c.loop-v.arcs w.arcs-from-asked-else-holds.new.arcs c.if-holds.arcs c.loop-v.asked
-          w.arcs-from-asked-else-holds.result c.if-holds.asked c.loop-v-test.true w.arcs-is w.asked-is
-          (λ u p. w.arcs-from-asked-else-holds.ensures.row u p ∙ arc_by_second f g s v u (sym c.holds.ensures ∙ w.if-holds.false))
-          w.arcs-from-asked-else-holds.ensures.rest w.arcs-from-asked-else-holds.ensures.asked c.loop-v.invariant
+          step n f g s v c.loop-v.arcs w.arcs_from-asked-else-holds.new.arcs c.if-holds.arcs c.loop-v.asked
+          w.arcs_from-asked-else-holds.result c.if-holds.asked c.loop-v-test.true w.arcs-is w.asked-is
+          (λ u p. w.arcs_from-asked-else-holds.ensures.row u p ∙ arc_by_second f g s v u (sym c.holds.ensures ∙ w.if-holds.false))
+          w.arcs_from-asked-else-holds.ensures.rest w.arcs_from-asked-else-holds.ensures.asked c.loop-v.invariant
     ]

@@ -14,4 +14,4 @@ pub returns-else-inside : goal.returns-else-inside
 returns-else-inside c =
     let f = allows c.args.file.now c.args.n c.args.rule in
     arc_outside f f (marked c.args.set.now) c.args.v c.args.u _ (c.requires.sides.0 ∙ c.if-inside.false)
-    (c.requires.sides.1 ∙ ap not c.if-inside.false) c.can-exchange-else-inside.ensures
+    (c.requires.sides.1 ∙ ap not c.if-inside.false) c.can_exchange-else-inside.ensures

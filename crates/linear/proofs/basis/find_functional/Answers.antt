@@ -20,8 +20,8 @@ loop-z-preserved c =
     elim c.if-chosen.branch [
       | then-chosen w ↦
           fresh_in c.args.prime c.args.len (number c.args.file.now c.args.len c.args.at) c.args.state.now c.loop-z.z (marked c.args.set.now)
-          c.args.q c.args.scale c.loop-z.sum w.add-multiple.new.target c.if-chosen.sum c.chosen.result w.number-at.result
-          c.chosen.ensures w.if-chosen.true w.number-at.ensures c.loop-z.invariant w.add-multiple.ensures.new w.sum-is
+          c.args.q c.args.scale c.loop-z.sum w.add_multiple.new.target c.if-chosen.sum c.chosen.result w.number_at.result
+          c.chosen.ensures w.if-chosen.true w.number_at.ensures c.loop-z.invariant w.add_multiple.ensures.new w.sum-is
       | else-chosen w ↦
           fresh_out c.args.prime c.args.len (number c.args.file.now c.args.len c.args.at) c.args.state.now c.loop-z.z (marked c.args.set.now)
           c.args.q c.args.scale c.loop-z.sum c.if-chosen.sum c.chosen.result c.chosen.ensures w.if-chosen.false c.loop-z.invariant w.sum-is

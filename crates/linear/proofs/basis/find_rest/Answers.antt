@@ -20,8 +20,8 @@ loop-y-preserved c =
     elim c.if-chosen.branch [
       | then-chosen w ↦
           rest_in c.args.prime c.args.len (number c.args.file.now c.args.len c.args.at) (functional c.args.state.now)
-          c.loop-y.y (marked c.args.set.now) (number c.args.file.now c.args.len c.args.at c.args.x) c.loop-y.sum w.add-row.new.sum c.if-chosen.sum c.chosen.result w.value.result c.chosen.ensures w.if-chosen.true
-          w.value.ensures c.loop-y.invariant w.add-row.ensures w.sum-is
+          c.loop-y.y (marked c.args.set.now) (number c.args.file.now c.args.len c.args.at c.args.x) c.loop-y.sum w.add_row.new.sum c.if-chosen.sum c.chosen.result w.value.result c.chosen.ensures w.if-chosen.true
+          w.value.ensures c.loop-y.invariant w.add_row.ensures w.sum-is
       | else-chosen w ↦
           rest_out c.args.prime c.args.len (number c.args.file.now c.args.len c.args.at) (functional c.args.state.now)
           c.loop-y.y (marked c.args.set.now) (number c.args.file.now c.args.len c.args.at c.args.x) c.loop-y.sum c.if-chosen.sum c.chosen.result c.chosen.ensures w.if-chosen.false

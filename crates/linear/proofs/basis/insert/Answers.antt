@@ -8,30 +8,30 @@ use Rattle.linear.proofs.basis.insert.Goals as goal
 
 pub returns : goal.returns
 returns c =
-    let low : c.find-column-q.result < c.args.len = omega (arith, c.find-column-q.ensures.within, c.if-q-len.false) in
+    let low : c.find_column-q.result < c.args.len = omega (arith, c.find_column-q.ensures.within, c.if-q-len.false) in
     record {
       answer =
           sym (ap not (a_column c.args.prime c.args.len (number c.args.file.now c.args.len c.args.at) c.args.state.now c.args.r (marked c.args.set.now)
-          c.requires.well.is_prime c.requires.well.prime_small c.requires.dual c.find-rest.new.sum c.find-rest.ensures
-          c.find-column-q.result low (c.find-column-q.ensures.found low)));
+          c.requires.well.is_prime c.requires.well.prime_small c.requires.dual c.find_rest.new.sum c.find_rest.ensures
+          c.find_column-q.result low (c.find_column-q.ensures.found low)));
       grown =
           λ _.
           basis_more c.args.prime c.args.len (number c.args.file.now c.args.len c.args.at) c.args.state.now c.args.r (marked c.args.set.now)
-          c.requires.well.is_prime c.requires.well.prime_small c.requires.dual c.find-rest.new.sum c.find-rest.ensures
-          c.find-column-q.result c.inverse-scale.result c.find-functional.new.sum c.correct.new.state c.copy-row.new.words
-          low (c.find-column-q.ensures.found low) c.inverse-scale.ensures c.requires.well.few_numbers
-          c.find-functional.ensures c.correct.ensures c.copy-row.ensures.same c.copy-row.ensures.rest;
+          c.requires.well.is_prime c.requires.well.prime_small c.requires.dual c.find_rest.new.sum c.find_rest.ensures
+          c.find_column-q.result c.inverse-scale.result c.find_functional.new.sum c.correct.new.state c.copy_row.new.words
+          low (c.find_column-q.ensures.found low) c.inverse-scale.ensures c.requires.well.few_numbers
+          c.find_functional.ensures c.correct.ensures c.copy_row.ensures.same c.copy_row.ensures.rest;
       unchanged = λ e. absurd (true≢false e);
     }
 
 pub returns-then-q-len : goal.returns-then-q-len
 returns-then-q-len c =
-    let e : c.find-column-q.result ≡ c.args.len = c.if-q-len.true in
+    let e : c.find_column-q.result ≡ c.args.len = c.if-q-len.true in
     record {
       answer =
           sym (ap not (no_column c.args.prime c.args.len (number c.args.file.now c.args.len c.args.at) c.args.state.now c.args.r (marked c.args.set.now)
-          c.requires.well.is_prime c.requires.well.prime_small c.requires.dual c.find-rest.new.sum c.find-rest.ensures
-          (λ j h. c.find-column-q.ensures.zeros j (omega arith))));
+          c.requires.well.is_prime c.requires.well.prime_small c.requires.dual c.find_rest.new.sum c.find_rest.ensures
+          (λ j h. c.find_column-q.ensures.zeros j (omega arith))));
       grown = λ h. absurd (false≢true h);
       unchanged = λ _. refl;
     }

@@ -7,4 +7,4 @@ use Rattle.linear.proofs.vectors.load.Goals as goal
 pub loop-j-preserved : goal.loop-j-preserved
 loop-j-preserved c =
     written_more (number c.args.file.now c.args.len c.args.at c.args.i) c.loop-j.row c.loop-j.j
-    c.number-at.result (omega (arith, c.requires.well.few_numbers)) c.number-at.ensures c.loop-j.invariant
+    c.number_at.result (omega (arith, c.requires.well.few_numbers)) c.number_at.ensures c.loop-j.invariant

@@ -3,4 +3,4 @@ use Rattle.matroid.proofs.FileReading.{read_cases}
 use Rattle.matroid.proofs.problem.read.Goals as goal
 
 pub returns : goal.returns
-returns c = record { answer = c.read-parts.ensures; meaning = read_cases c.args.file.now c.read-parts.result c.read-parts.ensures }
+returns c = record { answer = c.read_parts.ensures; meaning = read_cases c.args.file.now c.read_parts.result c.read_parts.ensures }

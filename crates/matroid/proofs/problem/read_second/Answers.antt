@@ -5,5 +5,5 @@ use Rattle.matroid.proofs.problem.read_second.Goals as goal
 
 pub end-end-requires : goal.end-end-requires
 end-end-requires c =
-    let w = read_within c.args.file.now c.args.n _ c.in-ok-second.second c.in-ok-second.ensures in
+    let w = read_within c.args.file.now c.args.n _ c.in_ok-second.second c.in_ok-second.ensures in
     (omega arith, omega arith)

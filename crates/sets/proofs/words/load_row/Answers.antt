@@ -10,8 +10,8 @@ loop-k-init c = (loaded_none _ _ _ _ _ _ c.clear_row.ensures.marks, λ p o. refl
 pub loop-k-preserved : goal.loop-k-preserved
 loop-k-preserved c =
     let inv = c.loop-k.invariant in
-    let byte = c.ok.bytes (c.args.at + c.loop-k.k) in (
-      loaded_next _ _ _ _ _ _ _ _ c.low-bits-byte.ensures (omega arith) (omega arith) (omega arith) inv.0,
+    let byte = c.type_inv.bytes (c.args.at + c.loop-k.k) in (
+      loaded_next _ _ _ _ _ _ _ _ c.low_bits-byte.ensures (omega arith) (omega arith) (omega arith) inv.0,
       same_but_more _ _ _ _ _ _ (omega arith) (omega arith) inv.1,
     )
 

@@ -52,7 +52,7 @@ loop-head-preserved-else-tends-y c = (
 )
 
 pub loop-head-preserved : goal.loop-head-preserved
-loop-head-preserved c = (going_next _ _ _ _ _ _ _ _ _ _ c.loop-head.invariant.0 c.loop-head-test.true c.in-default.ensures, c.loop-head.invariant.1)
+loop-head-preserved c = (going_next _ _ _ _ _ _ _ _ _ _ c.loop-head.invariant.0 c.loop-head-test.true c.in_default.ensures, c.loop-head.invariant.1)
 
 pub returns : goal.returns
 returns c = record {

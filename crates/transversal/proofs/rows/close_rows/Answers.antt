@@ -10,8 +10,8 @@ loop-j-init c = closing_start c.args.n (in_row c.args.state.now c.args.width)
 
 pub loop-j-preserved : goal.loop-j-preserved
 loop-j-preserved c = elim c.if-contains.branch [
-  | then-contains w ↦ rw w.state-is (closing_more c.args.n (in_row c.args.state.now c.args.width) (in_row c.loop-j.state c.args.width) (in_row w.close-through.new.state c.args.width) c.loop-j.j
-      c.loop-j.invariant c.loop-j-test.true w.close-through.ensures)
+  | then-contains w ↦ rw w.state-is (closing_more c.args.n (in_row c.args.state.now c.args.width) (in_row c.loop-j.state c.args.width) (in_row w.close_through.new.state c.args.width) c.loop-j.j
+      c.loop-j.invariant c.loop-j-test.true w.close_through.ensures)
   | else-contains w ↦ rw w.state-is (closing_skip c.args.n (in_row c.args.state.now c.args.width) (in_row c.loop-j.state c.args.width) c.loop-j.j
       c.loop-j.invariant c.loop-j-test.true
       (λ x h. c.requires.empty c.loop-j.j x c.loop-j-test.true h (sym (row_zero c.args.set.now c.loop-j.j) ∙ (sym c.contains.ensures ∙ w.if-contains.false))))

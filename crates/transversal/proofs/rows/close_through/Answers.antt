@@ -7,8 +7,8 @@ use Rattle.transversal.proofs.rows.close_through.Goals.{then-k-j+then-contains, 
 pub contains-requires : goal.contains-requires
 contains-requires c = omega (arith, row_in c.loop-k.k (c.args.n + 601) c.args.width (length c.loop-k.state) (omega arith) (omega arith))
 
-pub or-row-requires : goal.or-row-requires
-or-row-requires c = record {
+pub or_row-requires : goal.or_row-requires
+or_row-requires c = record {
   within = (
     row_in c.args.j (c.args.n + 601) c.args.width (length c.loop-k.state) (omega arith) (omega arith),
     row_in c.loop-k.k (c.args.n + 601) c.args.width (length c.loop-k.state) (omega arith) (omega arith),
@@ -18,10 +18,10 @@ or-row-requires c = record {
 
 pub loop-k-preserved : goal.loop-k-preserved
 loop-k-preserved c = elim c.if-k-j.branch [
-  | then-k-j+then-contains w ↦ rw w.state-is (through_more c.args.n 0 c.args.width (omega arith) c.args.j c.loop-k.k c.args.state.now c.loop-k.state w.or-row.new.words (omega arith) c.loop-k.invariant
-      (through_took c.args.n 0 c.args.width (omega arith) c.args.j c.loop-k.k c.args.state.now c.loop-k.state w.or-row.new.words (omega arith) c.loop-k.invariant
-      (sym w.contains.ensures ∙ w.if-contains.true) w.or-row.ensures.marks)
-      (λ z x d h. other_row c.loop-k.k z c.args.width c.loop-k.state w.or-row.new.words w.or-row.ensures.rest d x (omega arith)))
+  | then-k-j+then-contains w ↦ rw w.state-is (through_more c.args.n 0 c.args.width (omega arith) c.args.j c.loop-k.k c.args.state.now c.loop-k.state w.or_row.new.words (omega arith) c.loop-k.invariant
+      (through_took c.args.n 0 c.args.width (omega arith) c.args.j c.loop-k.k c.args.state.now c.loop-k.state w.or_row.new.words (omega arith) c.loop-k.invariant
+      (sym w.contains.ensures ∙ w.if-contains.true) w.or_row.ensures.marks)
+      (λ z x d h. other_row c.loop-k.k z c.args.width c.loop-k.state w.or_row.new.words w.or_row.ensures.rest d x (omega arith)))
   | else-k-j w ↦ rw w.state-is (through_more c.args.n 0 c.args.width (omega arith) c.args.j c.loop-k.k c.args.state.now c.loop-k.state c.loop-k.state (omega arith) c.loop-k.invariant
       (through_left c.args.n 0 c.args.width (omega arith) c.args.j c.loop-k.k c.args.state.now c.loop-k.state (omega arith) c.loop-k.invariant.1
       (elim w.else-k-j.branch [

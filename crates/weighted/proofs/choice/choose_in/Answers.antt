@@ -11,10 +11,10 @@ returns c =
     let file = c.args.file.now in
     record {
       chosen =
-          chosen_alike n (allows file n c.args.first) (allows file n c.args.second) (at c.load-weights.new.weights) (weight_of file)
-          c.choose-in-rows.new.sets c.choose-in-rows.new.numbers c.choose-in-rows.result.size
-          (λ x l. sym (c.load-weights.ensures x l)) c.choose-in-rows.ensures.chosen;
-      counts = c.choose-in-rows.ensures.counts;
-      rest = c.choose-in-rows.ensures.rest;
-      others = c.choose-in-rows.ensures.others;
+          chosen_alike n (allows file n c.args.first) (allows file n c.args.second) (at c.load_weights.new.weights) (weight_of file)
+          c.choose_in_rows.new.sets c.choose_in_rows.new.numbers c.choose_in_rows.result.size
+          (λ x l. sym (c.load_weights.ensures x l)) c.choose_in_rows.ensures.chosen;
+      counts = c.choose_in_rows.ensures.counts;
+      rest = c.choose_in_rows.ensures.rest;
+      others = c.choose_in_rows.ensures.others;
     }

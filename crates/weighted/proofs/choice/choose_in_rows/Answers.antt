@@ -2,8 +2,8 @@ use Rattle.std.proofs.Common.{rules}
 use Rattle.weighted.proofs.Lengths.{cleared}
 use Rattle.weighted.proofs.choice.choose_in_rows.Goals as goal
 
-pub all-rounds-requires : goal.all-rounds-requires
-all-rounds-requires c =
+pub all_rounds-requires : goal.all_rounds-requires
+all_rounds-requires c =
     record {
       sizes = search rules;
       rows = search rules;
@@ -12,5 +12,5 @@ all-rounds-requires c =
       room = search rules;
       well = c.requires.well;
       light = c.requires.light;
-      none = (cleared c.args.n c.clear-row.new.words c.clear-row.ensures.marks, c.requires.none);
+      none = (cleared c.args.n c.clear_row.new.words c.clear_row.ensures.marks, c.requires.none);
     }

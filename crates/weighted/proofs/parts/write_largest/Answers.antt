@@ -7,10 +7,10 @@ pub returns : goal.returns
 returns c =
     let n = c.args.n in
     let old = c.args.sets.now in
-    let mid = c.store-row.new.bytes in
-    let new = c.store-row-2.new.bytes in
+    let mid = c.store_row.new.bytes in
+    let new = c.store_row-2.new.bytes in
     record {
-      largest = λ x l. first_row_left n mid new c.store-row-2.ensures.rest x l ∙ stored_row n 0 c.args.set.now mid c.store-row.ensures.members x l;
-      duals = stored_row n (row_bytes n) c.args.dual.now new c.store-row-2.ensures.members;
-      others = behind_both (row_bytes n) old mid new c.store-row.ensures.rest c.store-row-2.ensures.rest;
+      largest = λ x l. first_row_left n mid new c.store_row-2.ensures.rest x l ∙ stored_row n 0 c.args.set.now mid c.store_row.ensures.members x l;
+      duals = stored_row n (row_bytes n) c.args.dual.now new c.store_row-2.ensures.members;
+      others = behind_both (row_bytes n) old mid new c.store_row.ensures.rest c.store_row-2.ensures.rest;
     }

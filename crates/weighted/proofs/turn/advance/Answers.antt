@@ -6,8 +6,8 @@ use Rattle.matroid.proofs.RuleLaws.{rule_matroid}
 use Rattle.weighted.proofs.Turning.{loss_fits, added_by, some_end, end_small}
 use Rattle.weighted.proofs.turn.advance.Goals as goal
 
-pub find-path-outcome-requires : goal.find-path-outcome-requires
-find-path-outcome-requires c =
+pub find_path-outcome-requires : goal.find_path-outcome-requires
+find_path-outcome-requires c =
     record {
       sizes = c.requires.sizes;
       rows = c.requires.rows;
@@ -21,19 +21,19 @@ find-path-outcome-requires c =
 pub loss-risen-requires : goal.loss-risen-requires
 loss-risen-requires c =
     let t = c.in-Some.t in
-    let end = some_end c.find-path-outcome.result.end t _ _ c.in-Some.is c.find-path-outcome.ensures.ends in
+    let end = some_end c.find_path-outcome.result.end t _ _ c.in-Some.is c.find_path-outcome.ensures.ends in
     let b : t < c.args.n = end.below in
-    let s = c.find-path-outcome.ensures.small t b end.found in
+    let s = c.find_path-outcome.ensures.small t b end.found in
     let weights = c.requires.sizes.1.1.1.0 in
     let potentials = c.requires.sizes.1.1.1.1 in
     let costs = c.requires.numbers.0 in
-    let long = c.find-path-outcome.auto.costs in
+    let long = c.find_path-outcome.auto.costs in
     record {
       within = (omega (arith, b, weights), (omega (arith, b, potentials), omega (arith, b, costs, long)));
       small = (
         c.requires.light t b,
-        end_small (at c.find-path-outcome.new.costs t) (at c.args.potentials.now t) (at c.args.weights.now t)
-            (at c.find-path-outcome.new.steps t) c.args.n s.0 s.1 c.requires.sizes.0 (c.requires.light t b),
+        end_small (at c.find_path-outcome.new.costs t) (at c.args.potentials.now t) (at c.args.weights.now t)
+            (at c.find_path-outcome.new.steps t) c.args.n s.0 s.1 c.requires.sizes.0 (c.requires.light t b),
       );
     }
 
@@ -45,14 +45,14 @@ returns-in-Some c =
     let a = at c.args.potentials.now in
     let s = marked c.args.set.now in
     let end =
-    some_end c.find-path-outcome.result.end c.in-Some.t _ _ c.in-Some.is c.find-path-outcome.ensures.ends in
+    some_end c.find_path-outcome.result.end c.in-Some.t _ _ c.in-Some.is c.find_path-outcome.ensures.ends in
     record {
-      asked = c.find-path-outcome.ensures.asked;
+      asked = c.find_path-outcome.ensures.asked;
       ends =
           added_by n (allows file n c.args.first) (allows file n c.args.second) w a (at c.raise.new.potentials) c.args.loss
-          c.loss-risen.result s (marked c.toggle-path.new.set) (marked c.find-path-outcome.new.reached)
-          (at c.find-path-outcome.new.costs) (at c.find-path-outcome.new.steps) (at c.find-path-outcome.new.back)
+          c.loss-risen.result s (marked c.toggle_path.new.set) (marked c.find_path-outcome.new.reached)
+          (at c.find_path-outcome.new.costs) (at c.find_path-outcome.new.steps) (at c.find_path-outcome.new.back)
           c.in-Some.t (rule_matroid file n c.args.first c.requires.well.0) (rule_matroid file n c.args.second c.requires.well.1)
-          c.requires.light c.requires.state c.find-path-outcome.ensures.labels end c.loss-risen.ensures c.toggle-path.ensures
+          c.requires.light c.requires.state c.find_path-outcome.ensures.labels end c.loss-risen.ensures c.toggle_path.ensures
           c.raise.ensures;
     }

@@ -51,9 +51,9 @@ returns-in-None c =
       chosen =
           finished (rule_matroid file n c.args.first c.requires.well.0) (rule_matroid file n c.args.second c.requires.well.1)
           (at c.args.weights.now) (at c.loop-set.potentials) c.loop-set.loss s (marked c.advance-step.new.dual)
-          c.loop-set.sets c.write-largest.new.sets c.loop-set.numbers k p end.1
-          (λ x l. c.write-largest.ensures.largest x l ∙ ap (λ (v : List ℕ). marked v x) end.0) c.write-largest.ensures.duals
-          c.write-largest.ensures.others;
+          c.loop-set.sets c.write_largest.new.sets c.loop-set.numbers k p end.1
+          (λ x l. c.write_largest.ensures.largest x l ∙ ap (λ (v : List ℕ). marked v x) end.0) c.write_largest.ensures.duals
+          c.write_largest.ensures.others;
       counts = (
         refl,
         ap (λ (z : ℕ). c.loop-set.calls + z) (asked_is n k c.advance-step.result.asked s p.counted c.advance-step.ensures.asked)
@@ -61,12 +61,12 @@ returns-in-None c =
       );
       rest = c.loop-set.invariant.3;
       others =
-          all_rest (row_bytes n) k c.args.sets.now c.loop-set.sets c.write-largest.new.sets c.loop-set.invariant.4
-          c.write-largest.ensures.others;
+          all_rest (row_bytes n) k c.args.sets.now c.loop-set.sets c.write_largest.new.sets c.loop-set.invariant.4
+          c.write_largest.ensures.others;
     }
 
-pub write-size-requires : goal.write-size-requires
-write-size-requires c =
+pub write_size-requires : goal.write_size-requires
+write_size-requires c =
     let n = c.args.n in
     let k = c.loop-set.size in
     let more = some_end c.advance-step.result.loss c.in-Some.risen _ _ c.in-Some.is c.advance-step.ensures.ends in
@@ -110,14 +110,14 @@ loop-set-preserved c =
     let risen = c.in-Some.risen in
     let e = asked_is n k c.advance-step.result.asked s p.counted c.advance-step.ensures.asked in
     let more = some_end c.advance-step.result.loss risen _ _ c.in-Some.is c.advance-step.ensures.ends in (
-      step_up (λ (z : ℕ). Progress n f g w a risen t c.write-size.new.sets c.write-size.new.numbers z) k
+      step_up (λ (z : ℕ). Progress n f g w a risen t c.write_size.new.sets c.write_size.new.numbers z) k
           (progress_more (rule_matroid file n c.args.first c.requires.well.0) (rule_matroid file n c.args.second c.requires.well.1) w
-          (at c.loop-set.potentials) a c.loop-set.loss risen s t c.loop-set.sets c.write-size.new.sets c.loop-set.numbers
-          c.write-size.new.numbers k p more.state (more.sized ∙ ap suc p.counted)
-          (subst (λ (z : ℕ). risen ≤ suc z * top) p.counted more.low) c.write-size.ensures.others c.write-size.ensures.members
-          c.write-size.ensures.rest c.write-size.ensures.first c.write-size.ensures.second),
+          (at c.loop-set.potentials) a c.loop-set.loss risen s t c.loop-set.sets c.write_size.new.sets c.loop-set.numbers
+          c.write_size.new.numbers k p more.state (more.sized ∙ ap suc p.counted)
+          (subst (λ (z : ℕ). risen ≤ suc z * top) p.counted more.low) c.write_size.ensures.others c.write_size.ensures.members
+          c.write_size.ensures.rest c.write_size.ensures.first c.write_size.ensures.second),
       calls_next n k c.loop-set.calls c.advance-step.result.asked e c.loop-set.invariant.1,
       calls_few n k c.loop-set.calls c.advance-step.result.asked c.requires.sizes.0 (held n k s p.counted) c.loop-set.invariant.2 e,
-      numbers_rest n k c.args.numbers.now c.loop-set.numbers c.write-size.new.numbers c.loop-set.invariant.3 c.write-size.ensures.rest,
-      sets_rest (row_bytes n) k c.args.sets.now c.loop-set.sets c.write-size.new.sets c.loop-set.invariant.4 c.write-size.ensures.others,
+      numbers_rest n k c.args.numbers.now c.loop-set.numbers c.write_size.new.numbers c.loop-set.invariant.3 c.write_size.ensures.rest,
+      sets_rest (row_bytes n) k c.args.sets.now c.loop-set.sets c.write_size.new.sets c.loop-set.invariant.4 c.write_size.ensures.others,
     )
