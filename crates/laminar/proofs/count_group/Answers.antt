@@ -8,8 +8,8 @@ use Rattle.laminar.proofs.Sizes.{size_in, size_out}
 use Rattle.laminar.proofs.count_group.Goals as goal
 use Rattle.laminar.proofs.count_group.Goals.{then-both, else-both}
 
-pub overflow-add-held : goal.overflow-add-held
-overflow-add-held c =
+pub overflow_add-held : goal.overflow_add-held
+overflow_add-held c =
     omega (
       arith,
       c.loop-i.invariant,

@@ -8,8 +8,8 @@ use Rattle.laminar.proofs.overlaps_earlier.Goals as goal
 pub group_at-requires : goal.group_at-requires
 group_at-requires c = omega (arith, ends_before c.args.n c.args.at c.loop-h.h c.args.g c.loop-h-test.true)
 
-pub overflow-add-group_at : goal.overflow-add-group_at
-overflow-add-group_at c = omega (arith, ends_before c.args.n c.args.at c.loop-h.h c.args.g c.loop-h-test.true)
+pub overflow_add-group_at : goal.overflow_add-group_at
+overflow_add-group_at c = omega (arith, ends_before c.args.n c.args.at c.loop-h.h c.args.g c.loop-h-test.true)
 
 pub overlap-found-requires : goal.overlap-found-requires
 overlap-found-requires c = omega (arith, ends_before c.args.n c.args.at c.loop-h.h c.args.g c.loop-h-test.true)

@@ -17,14 +17,14 @@ small s n v asked r p q h e =
     let b = pick_small (s v) n (size n s) p k in
     omega arith
 
-pub overflow-add-asked : goal.overflow-add-asked
-overflow-add-asked c =
+pub overflow_add-asked : goal.overflow_add-asked
+overflow_add-asked c =
     let l = small (marked c.args.set.now) c.args.n c.loop-v.v c.loop-v.asked c.arcs_from-asked.result
     c.requires.sizes.0 c.loop-v-test.true c.loop-v.invariant.1 c.arcs_from-asked.ensures.asked in
     omega arith
 
-pub overflow-add-asked-else-holds : goal.overflow-add-asked-else-holds
-overflow-add-asked-else-holds c =
+pub overflow_add-asked-else-holds : goal.overflow_add-asked-else-holds
+overflow_add-asked-else-holds c =
     let l = small (marked c.args.set.now) c.args.n c.loop-v.v c.loop-v.asked c.arcs_from-asked-else-holds.result
     c.requires.sizes.0 c.loop-v-test.true c.loop-v.invariant.1 c.arcs_from-asked-else-holds.ensures.asked in
     omega arith

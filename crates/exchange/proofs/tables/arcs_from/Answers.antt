@@ -7,8 +7,8 @@ use Rattle.exchange.proofs.Cells.{row_written, rows_kept}
 use Rattle.exchange.proofs.tables.arcs_from.Goals as goal
 use Rattle.exchange.proofs.tables.arcs_from.Goals.{then-holds-inside, else-holds-inside}
 
-pub overflow-add-asked : goal.overflow-add-asked
-overflow-add-asked c =
+pub overflow_add-asked : goal.overflow_add-asked
+overflow_add-asked c =
     let l = others_le (marked c.args.set.now) (marked c.args.set.now c.args.v) c.loop-u.u in
     omega (arith, c.loop-u.invariant.2)
 

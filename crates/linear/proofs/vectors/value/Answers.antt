@@ -5,8 +5,8 @@ use Rattle.linear.specs.Kept.{functional}
 use Rattle.linear.proofs.Steps.{dot_more, product_low}
 use Rattle.linear.proofs.vectors.value.Goals as goal
 
-pub overflow-add-sum-in-loop-j : goal.overflow-add-sum-in-loop-j
-overflow-add-sum-in-loop-j c =
+pub overflow_add-sum-in-loop-j : goal.overflow_add-sum-in-loop-j
+overflow_add-sum-in-loop-j c =
     let low : get_or c.args.state.now (65 * c.args.y + c.loop-j.j) 0 < 2 ^ 32 = omega (arith, c.type_inv.state (65 * c.args.y + c.loop-j.j)) in
     let b = product_low (get_or c.args.state.now (65 * c.args.y + c.loop-j.j) 0) c.number_at.result low c.number_at.type_inv in
     omega (arith, b, c.loop-j.invariant.1, c.requires.well.few_numbers)

@@ -23,38 +23,38 @@ loop-queue-smaller c = (shift_write _ _ _ _ _ (at c.reach.new.queue) (at c.reach
 pub loop-queue-preserved : goal.loop-queue-preserved
 loop-queue-preserved c = (shift_write _ _ _ _ _ (at c.reach.new.queue) (at c.reach.new.via) c.loop-queue.tends c.loop-queue.owner c.loop-queue.y c.loop-queue.invariant (omega arith) (omega arith) (omega arith) (omega arith)).0
 
-pub offset-bounds-via-y : goal.offset-bounds-via-y
-offset-bounds-via-y c = let y = c.loop-queue.invariant.inside in let s = c.requires.small in omega arith
+pub offset_bounds-via-y : goal.offset_bounds-via-y
+offset_bounds-via-y c = let y = c.loop-queue.invariant.inside in let s = c.requires.small in omega arith
 
 pub bounds-via-y : goal.bounds-via-y
 bounds-via-y c = let y = c.loop-queue.invariant.inside in let s = c.requires.small in omega arith
 
-pub overflow-cast-v : goal.overflow-cast-v
-overflow-cast-v c = let r = c.loop-queue.invariant in let l = r.led.short in let b = (r.led.by c.loop-queue.y r.inside r.come).0 in omega arith
+pub overflow_cast-v : goal.overflow_cast-v
+overflow_cast-v c = let r = c.loop-queue.invariant in let l = r.led.short in let b = (r.led.by c.loop-queue.y r.inside r.come).0 in omega arith
 
-pub offset-bounds-queue-via : goal.offset-bounds-queue-via
-offset-bounds-queue-via c = let r = c.loop-queue.invariant in let l = r.led.short in let b = (r.led.by c.loop-queue.y r.inside r.come).0 in omega arith
+pub offset_bounds-queue-via : goal.offset_bounds-queue-via
+offset_bounds-queue-via c = let r = c.loop-queue.invariant in let l = r.led.short in let b = (r.led.by c.loop-queue.y r.inside r.come).0 in omega arith
 
 pub bounds-queue-via : goal.bounds-queue-via
 bounds-queue-via c = let r = c.loop-queue.invariant in let l = r.led.short in let b = (r.led.by c.loop-queue.y r.inside r.come).0 in omega arith
 
-pub overflow-cast-z : goal.overflow-cast-z
-overflow-cast-z c = let v = shift_low _ _ _ _ _ (at c.reach.new.queue) (at c.reach.new.via) c.loop-queue.tends c.loop-queue.owner c.loop-queue.y c.loop-queue.invariant (omega arith) (omega arith) in let s = c.requires.small in omega arith
+pub overflow_cast-z : goal.overflow_cast-z
+overflow_cast-z c = let v = shift_low _ _ _ _ _ (at c.reach.new.queue) (at c.reach.new.via) c.loop-queue.tends c.loop-queue.owner c.loop-queue.y c.loop-queue.invariant (omega arith) (omega arith) in let s = c.requires.small in omega arith
 
-pub offset-bounds-owner-v : goal.offset-bounds-owner-v
-offset-bounds-owner-v c = let v = shift_low _ _ _ _ _ (at c.reach.new.queue) (at c.reach.new.via) c.loop-queue.tends c.loop-queue.owner c.loop-queue.y c.loop-queue.invariant (omega arith) (omega arith) in let s = c.requires.small in omega arith
+pub offset_bounds-owner-v : goal.offset_bounds-owner-v
+offset_bounds-owner-v c = let v = shift_low _ _ _ _ _ (at c.reach.new.queue) (at c.reach.new.via) c.loop-queue.tends c.loop-queue.owner c.loop-queue.y c.loop-queue.invariant (omega arith) (omega arith) in let s = c.requires.small in omega arith
 
-pub overflow-cast-owner-in-loop-queue : goal.overflow-cast-owner-in-loop-queue
-overflow-cast-owner-in-loop-queue c = let y = c.loop-queue.invariant.inside in let s = c.requires.small in omega arith
+pub overflow_cast-owner-in-loop-queue : goal.overflow_cast-owner-in-loop-queue
+overflow_cast-owner-in-loop-queue c = let y = c.loop-queue.invariant.inside in let s = c.requires.small in omega arith
 
-pub overflow-cast-owner-in-loop-queue-2 : goal.overflow-cast-owner-in-loop-queue-2
-overflow-cast-owner-in-loop-queue-2 c = let v = shift_low _ _ _ _ _ (at c.reach.new.queue) (at c.reach.new.via) c.loop-queue.tends c.loop-queue.owner c.loop-queue.y c.loop-queue.invariant (omega arith) (omega arith) in let s = c.requires.small in omega arith
+pub overflow_cast-owner-in-loop-queue-2 : goal.overflow_cast-owner-in-loop-queue-2
+overflow_cast-owner-in-loop-queue-2 c = let v = shift_low _ _ _ _ _ (at c.reach.new.queue) (at c.reach.new.via) c.loop-queue.tends c.loop-queue.owner c.loop-queue.y c.loop-queue.invariant (omega arith) (omega arith) in let s = c.requires.small in omega arith
 
-pub offset-bounds-owner-v-in-loop-queue : goal.offset-bounds-owner-v-in-loop-queue
-offset-bounds-owner-v-in-loop-queue c = let v = shift_low _ _ _ _ _ (at c.reach.new.queue) (at c.reach.new.via) c.loop-queue.tends c.loop-queue.owner c.loop-queue.y c.loop-queue.invariant (omega arith) (omega arith) in let s = c.requires.small in omega arith
+pub offset_bounds-owner-v-in-loop-queue : goal.offset_bounds-owner-v-in-loop-queue
+offset_bounds-owner-v-in-loop-queue c = let v = shift_low _ _ _ _ _ (at c.reach.new.queue) (at c.reach.new.via) c.loop-queue.tends c.loop-queue.owner c.loop-queue.y c.loop-queue.invariant (omega arith) (omega arith) in let s = c.requires.small in omega arith
 
-pub offset-bounds-tends-y : goal.offset-bounds-tends-y
-offset-bounds-tends-y c = let y = c.loop-queue.invariant.inside in let s = c.requires.small in omega arith
+pub offset_bounds-tends-y : goal.offset_bounds-tends-y
+offset_bounds-tends-y c = let y = c.loop-queue.invariant.inside in let s = c.requires.small in omega arith
 
 pub bounds-tends-y : goal.bounds-tends-y
 bounds-tends-y c = let y = c.loop-queue.invariant.inside in omega arith

@@ -4,5 +4,5 @@ use Rattle.transversal.proofs.parse.read_rows.Given as goal
 
 abbrev pub invariant-loop-v : goal.invariant-loop-v
 invariant-loop-v l =
-    (read_rows l.file l.n l.volunteers (l.volunteers - l.-v) l.row ≡ read_rows l.file l.n l.volunteers l.volunteers l.place)
+    (read_rows l.file l.n l.volunteers (l.volunteers - l._v) l.row ≡ read_rows l.file l.n l.volunteers l.volunteers l.place)
     × (l.row ≤ length l.file)

@@ -10,15 +10,15 @@ use Rattle.weighted.proofs.choice.choose.Goals as goal
 kept_is : (n kept full : ℕ) → kept ≡ full → n ≤ 600 → full ≤ 63000 → kept ≤ 63000
 kept_is n kept full e h k = omega arith
 
-pub overflow-mul-kept_length : goal.overflow-mul-kept_length
-overflow-mul-kept_length c =
+pub overflow_mul-kept_length : goal.overflow_mul-kept_length
+overflow_mul-kept_length c =
     let m = c.in_ok-problem.ensures.meaning in
     let n = c.in_ok-problem.problem.n in
     let k = kept_is n c.kept_length.result _ c.kept_length.ensures m.few (kept_small n m.few) in
     omega (arith, k)
 
-pub overflow-add-n-4 : goal.overflow-add-n-4
-overflow-add-n-4 c =
+pub overflow_add-n-4 : goal.overflow_add-n-4
+overflow_add-n-4 c =
     let m = c.in_ok-problem.ensures.meaning in
     let n = c.in_ok-problem.problem.n in
     let k = kept_is n c.kept_length.result _ c.kept_length.ensures m.few (kept_small n m.few) in

@@ -29,8 +29,8 @@ loop-set-init c =
       (λ p l. refl),
     )
 
-pub overflow-add-calls : goal.overflow-add-calls
-overflow-add-calls c =
+pub overflow_add-calls : goal.overflow_add-calls
+overflow_add-calls c =
     let n = c.args.n in
     let s = marked c.loop-set.set in
     let k = c.loop-set.size in
@@ -80,8 +80,8 @@ write_size-requires c =
       );
     }
 
-pub overflow-add-size : goal.overflow-add-size
-overflow-add-size c =
+pub overflow_add-size : goal.overflow_add-size
+overflow_add-size c =
     let n = c.args.n in
     let k = c.loop-set.size in
     let b = held n k (marked c.loop-set.set) c.loop-set.invariant.0.counted in
