@@ -49,11 +49,11 @@ returns-in_err-check_parts c =
 
 pub check_parts-requires : goal.check_parts-requires
 check_parts-requires c =
-    let a = c.split_at_mut-set.ensures.front-len in
+    let a = c.split_at_mut-set.ensures.front_len in
     let b = c.split_at_mut-set.ensures.back_len in
-    let d = c.split_at_mut-other.ensures.front-len in
+    let d = c.split_at_mut-other.ensures.front_len in
     let e = c.split_at_mut-other.ensures.back_len in
-    let h = c.split_at_mut-first_state.ensures.front-len in
+    let h = c.split_at_mut-first_state.ensures.front_len in
     let k = c.split_at_mut-first_state.ensures.back_len in
     let o = c.kept_length-state.ensures in
     record {
