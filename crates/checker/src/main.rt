@@ -4,6 +4,7 @@
 use anyhow::anyhow;
 use certificate::{check, work_length};
 use sets::refusal::{Refusal, Source};
+use std::process::ExitCode;
 use std::{env, fs, io};
 
 mod example;
@@ -69,10 +70,10 @@ fn run(rt: &HostRuntime) -> anyhow::Result<bool> {
     answer(rt, file.as_slice(), bytes.as_slice())
 }
 
-fn main(rt: HostRuntime) -> anyhow::Result<()> {
+fn main(rt: HostRuntime) -> anyhow::Result<ExitCode> {
     if run(&rt)? {
-        Ok(())
+        Ok(ExitCode::SUCCESS)
     } else {
-        Err(anyhow!("refused"))
+        Ok(ExitCode::FAILURE)
     }
 }

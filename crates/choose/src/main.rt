@@ -6,6 +6,7 @@ use certificate::choose_and_check;
 use sets::numbers::read_u16;
 use sets::refusal::Refusal;
 use std::io::{BufWriter, Write};
+use std::process::ExitCode;
 use std::{env, fs, io};
 use weighted::choose;
 
@@ -118,10 +119,10 @@ fn run(rt: &HostRuntime) -> anyhow::Result<bool> {
     }
 }
 
-fn main(rt: HostRuntime) -> anyhow::Result<()> {
+fn main(rt: HostRuntime) -> anyhow::Result<ExitCode> {
     if run(&rt)? {
-        Ok(())
+        Ok(ExitCode::SUCCESS)
     } else {
-        Err(anyhow!("refused"))
+        Ok(ExitCode::FAILURE)
     }
 }

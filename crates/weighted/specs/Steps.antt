@@ -45,8 +45,8 @@ NextOrDual =
 abbrev pub StatesExist : Type 0
 StatesExist =
     (n : ℕ) (f g : Set → Bool) (w : ℕ → ℕ) (t : Set) → Matroid n f → Matroid n g → ((x : ℕ) → x < n → w x ≤ top) →
-    f t ≡ true → g t ≡ true → (type_size : ℕ) → type_size ≤ size n t →
-    (a : ℕ → ℕ) × (loss : ℕ) × (s : Set) × State n f g w a loss s × (size n s ≡ type_size)
+    f t ≡ true → g t ≡ true → (size_of : ℕ) → size_of ≤ size n t →
+    (a : ℕ → ℕ) × (loss : ℕ) × (s : Set) × State n f g w a loss s × (size n s ≡ size_of)
 
 -- any two matroids have a set that both allow with a dual set, which is a largest one
 abbrev pub DualExists : Type 0
