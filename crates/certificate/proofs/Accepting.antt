@@ -1,7 +1,5 @@
 -- From a file's meaning to the check of a certificate, and back.
-use Rattle.std.proofs.Common.{◌≡◌, ℕ, ◌+◌, ◌*◌, ◌≤◌, ◌⊎◌, List, length, Ok, Err, Result, sym, refl, ◌∙◌, subst, inl, inr, arith, MatchResult}
-use Rattle.std.proofs.lemmas.Bool.{false≢true}
-use Rattle.sets.specs.Refusals.{First}
+use Rattle.std.proofs.Common.{◌≡◌, ℕ, ◌≤◌, List, length, Ok, Err, Result, sym, ◌∙◌, subst, arith}
 use Rattle.sets.specs.declared.refusal.Refusal.{Refusal}
 use Rattle.matroid.specs.declared.problem.Problem.{Problem}
 use Rattle.matroid.specs.declared.rule.Rule.{Rule}
@@ -10,10 +8,10 @@ use Rattle.matroid.specs.Problem.{weight_of, rules_at, Means, Stands}
 use Rattle.matroid.specs.Reading as reading
 use Rattle.matroid.proofs.FileReading.{means_well, reads_meaning}
 use Rattle.matroid.proofs.RuleLaws.{rule_matroid}
-use Rattle.certificate.specs.Accepted.{Certified, Proven, FirstRefusal}
+use Rattle.certificate.specs.Accepted.{Certified, Proven}
 use Rattle.certificate.specs.Faults.{Fault, FirstFault}
 use Rattle.certificate.specs.Layout.{count}
-use Rattle.certificate.specs.Validity.{Usable, Valid, work_length, by_first, by_second}
+use Rattle.certificate.specs.Validity.{Usable, Valid, by_first, by_second}
 use Rattle.certificate.proofs.Soundness.{shows_largest, shows_heaviest}
 use Rattle.certificate.proofs.Validating.{no_fault}
 

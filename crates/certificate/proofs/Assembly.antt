@@ -1,22 +1,14 @@
 -- The first fault of all, and what no fault at all means.
-use Rattle.std.proofs.Common.{◌≡◌, ℕ, suc, ◌+◌, ◌-◌, ◌*◌, ◌/◌, ◌<◌, ◌≤◌, Bool, true, false, ◌⊎◌, List, length, ℤ, pos, ◌+ℤ◌, ◌≤ℤ◌, ◌<ℤ◌, sym, refl, ap, ◌∙◌, subst, inl, inr, ⊎_elim, arith}
-use lib.Signed.{clash_ℤ}
-use borrow.Author.Differences.{ints}
-use Rattle.std.proofs.lemmas.Int.{by_lt_z}
-use Rattle.std.proofs.lemmas.Bool.{both_ways, cases_lt, cases_eq, cases_Bool}
-use Rattle.sets.specs.Bits.{row, row_bytes}
-use Rattle.sets.specs.Matroid.{Set, size, both, outside, with, without}
+use Rattle.std.proofs.Common.{◌≡◌, ℕ, ◌+◌, ◌*◌, ◌<◌, ◌≤◌, Bool, List, refl, subst, inl, inr, ⊎_elim, arith}
+use Rattle.std.proofs.lemmas.Bool.{cases_lt, cases_eq}
+use Rattle.sets.specs.Matroid.{Set}
 use Rattle.sets.specs.declared.refusal.Refusal.{Refusal}
-use Rattle.sets.specs.declared.refusal.Refusal.TheVariants.{Length, Range, Short, Refused, Split}
-use Rattle.sets.specs.declared.refusal.Refusal.TheVariants as refusal
-use Rattle.sets.specs.declared.refusal.Source.TheVariants.{Certificate}
+use Rattle.sets.specs.declared.refusal.Refusal.TheVariants.{Short}
 use Rattle.sets.specs.declared.refusal.Lent.TheVariants.{Work}
-use Rattle.matroid.specs.Optimal.{Dual, SignedSplit}
-use Rattle.certificate.specs.Layout.{row_at, count, needed, largest_set, dual_set, sized_set, first_part, second_part, Clean}
-use Rattle.certificate.specs.Validity.{Valid, work_length}
+use Rattle.certificate.specs.Layout.{count, largest_set, dual_set}
+use Rattle.certificate.specs.Validity.{work_length}
 use Rattle.certificate.specs.Faults.{ByteFault, cut, longer, SetFault, wrong_size, first_refuses, second_refuses, DualFault, SizedFault, NumbersFault, SplitFault, Clear, Earliest, AllRight, SomeWrong, PartsRight, PartsWrong, Stage, turn, Fault, FirstFault}
 use Rattle.certificate.specs.Faults as fault
-use Rattle.certificate.proofs.Rows.{row_apart}
 
 module _ (n : ℕ) (f g : Set → Bool) (w : ℕ → ℕ) (sheet : List ℕ) (words : ℕ) where
   -- a fault in the bytes is the first of all

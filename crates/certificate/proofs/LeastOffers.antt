@@ -1,5 +1,5 @@
 -- The least offer in fault.
-use Rattle.std.proofs.Common.{◌≡◌, ℕ, ◌<◌, ◌≤◌, refl, ⊎_elim, arith}
+use Rattle.std.proofs.Common.{◌≡◌, ℕ, ◌<◌, ◌≤◌, refl, ⊎_elim}
 use Rattle.std.proofs.lemmas.Bool.{cases_lt}
 use Rattle.sets.specs.declared.refusal.Refusal.{Refusal}
 use Rattle.certificate.specs.Faults.{Earliest, Clear}

@@ -1,5 +1,5 @@
 -- Where the rows of a certificate stand, one behind the other.
-use Rattle.std.proofs.Common.{◌≡◌, ℕ, suc, ◌+◌, ◌-◌, ◌*◌, ◌/◌, ◌^◌, ◌<◌, ◌≤◌, ap, ◌∙◌, mul-le-mul_right, add-mul, mul-le-mul, arith}
+use Rattle.std.proofs.Common.{◌≡◌, ℕ, ◌+◌, ◌-◌, ◌*◌, ◌/◌, ◌<◌, ◌≤◌, ap, ◌∙◌, mul-le-mul_right, add-mul, mul-le-mul, arith}
 use Rattle.sets.specs.Bits.{row_bytes}
 use Rattle.certificate.specs.Layout.{row_at}
 

@@ -1,11 +1,11 @@
 -- The first fault of a size, from that of its set and that of its numbers.
-use Rattle.std.proofs.Common.{◌≡◌, ℕ, ◌+◌, ◌*◌, ◌<◌, ◌≤◌, Bool, true, false, ◌⊎◌, List, ℤ, sym, refl, ap, ◌∙◌, subst, inl, inr, ⊎_elim}
+use Rattle.std.proofs.Common.{◌≡◌, ℕ, ◌+◌, ◌<◌, ◌≤◌, Bool, true, List, ℤ, sym, ◌∙◌, subst, inl, inr, ⊎_elim}
 use Rattle.sets.specs.Bits.{row, row_bytes}
 use Rattle.sets.specs.Matroid.{Set, with, without, Matroid}
 use Rattle.sets.specs.declared.refusal.Refusal.{Refusal}
 use Rattle.matroid.proofs.Along.{with_alike, swap_alike}
-use Rattle.certificate.specs.Layout.{row_at, count, sized_set, part}
-use Rattle.certificate.specs.Faults.{Outbids, Misjudged, unequal, first, second, SetFault, SplitFault, SizedFault, NumbersFault, Earliest, Clear, Right, Wrong}
+use Rattle.certificate.specs.Layout.{row_at, count, part}
+use Rattle.certificate.specs.Faults.{Outbids, Misjudged, unequal, first, second, SetFault, SplitFault, SizedFault, NumbersFault, Earliest, Clear, Wrong}
 
 -- an offer that outbids a chosen one of a set does so in a set that agrees with it
 outbids_along : (n : ℕ) (f : Set → Bool) (p : ℕ → ℤ) (s t : Set) (x : ℕ) → Matroid n f → ((v : ℕ) → v < n → t v ≡ s v) →

@@ -1,7 +1,6 @@
 -- What an accepted certificate shows.
-use Rattle.std.proofs.Common.{◌≡◌, ℕ, ◌+◌, ◌<◌, ◌≤◌, sym, refl, ◌∙◌, ⊎_elim, arith}
+use Rattle.std.proofs.Common.{◌<◌, ◌≤◌, sym, refl, ◌∙◌, ⊎_elim}
 use Rattle.std.proofs.lemmas.Bool.{cases_lt}
-use Rattle.sets.specs.Matroid.{Set, size}
 use Rattle.sets.specs.declared.refusal.Refusal.TheVariants.{Short}
 use Rattle.sets.specs.declared.refusal.Lent.TheVariants.{Work}
 use Rattle.matroid.proofs.Optimality.{largest, heaviest_signed}

@@ -1,10 +1,10 @@
 -- There is one first fault.
-use Rattle.std.proofs.Common.{◌≡◌, ℕ, ◌+◌, ◌*◌, ◌/◌, ◌<◌, ◌≤◌, Bool, List, length, sym, refl, ap, ◌∙◌, subst, arith}
+use Rattle.std.proofs.Common.{◌≡◌, ℕ, ◌+◌, ◌≤◌, Bool, List, sym, refl, ap, ◌∙◌, subst, arith}
 use Rattle.sets.specs.Matroid.{Set}
 use Rattle.sets.specs.declared.refusal.Refusal.{Refusal}
 use Rattle.sets.specs.declared.refusal.Refusal.TheVariants.{Range, Dual, Split}
 use Rattle.sets.specs.declared.refusal.Source.TheVariants.{Certificate}
-use Rattle.certificate.specs.Layout.{row_at, count, needed, largest_set, sized_set}
+use Rattle.certificate.specs.Layout.{count, largest_set, sized_set}
 use Rattle.certificate.specs.Faults.{ByteFault, cut, longer, SetFault, wrong_size, first_refuses, second_refuses, Earliest, Stage, turn, Fault}
 use Rattle.certificate.specs.Faults as fault
 use Rattle.certificate.specs.Soundness.{OneFirstFault}

@@ -1,11 +1,11 @@
 -- No fault at all is validity, and a valid certificate has no fault.
-use Rattle.std.proofs.Common.{◌≡◌, ℕ, suc, ◌+◌, ◌-◌, ◌*◌, ◌/◌, ◌<◌, ◌≤◌, Bool, true, false, ◌⊎◌, List, length, ℤ, pos, ◌+ℤ◌, ◌≤ℤ◌, ◌<ℤ◌, is_ok, Ok, Err, Decides, Result, sym, refl, ap, ◌∙◌, inl, inr, ⊎_elim, arith, MatchResult}
+use Rattle.std.proofs.Common.{◌≡◌, ℕ, ◌+◌, ◌/◌, ◌<◌, ◌≤◌, Bool, true, false, List, length, ℤ, pos, ◌+ℤ◌, is_ok, Ok, Err, Decides, Result, refl, inl, inr, ⊎_elim, arith, MatchResult}
 use lib.Signed.{clash_ℤ}
 use borrow.Author.Differences.{ints}
 use Rattle.std.proofs.lemmas.Int.{by_lt_z}
 use Rattle.std.proofs.lemmas.Bool.{both_ways, false≢true, cases_lt, cases_eq, cases_Bool}
 use Rattle.sets.specs.Bits.{row, row_bytes}
-use Rattle.sets.specs.Matroid.{Set, size, both, outside, with, without}
+use Rattle.sets.specs.Matroid.{Set, size, both, outside, with}
 use Rattle.sets.specs.declared.refusal.Refusal.{Refusal}
 use Rattle.sets.specs.declared.refusal.Refusal.TheVariants.{Length, Range, Refused, Split}
 use Rattle.sets.specs.declared.refusal.Refusal.TheVariants as refusal

@@ -7,7 +7,7 @@ use Rattle.sets.specs.declared.refusal.Refusal.{Refusal}
 use Rattle.sets.specs.declared.refusal.Refusal.TheVariants.{Length, Range, Short, Refused, Dual, Split}
 use Rattle.sets.specs.declared.refusal.Source.TheVariants.{Certificate}
 use Rattle.sets.specs.declared.refusal.Lent.TheVariants.{Work}
-use Rattle.certificate.specs.Layout.{row_at, largest_set, dual_set, sized_set, count, needed, first_part, second_part, Clean}
+use Rattle.certificate.specs.Layout.{row_at, largest_set, dual_set, sized_set, count, needed, first_part, second_part}
 use Rattle.certificate.specs.Validity.{work_length}
 
 -- the row at a byte is not whole, or a bit from n on is set in it

@@ -1,9 +1,9 @@
 -- Where the parts of a certificate stand in its bytes: a row of bits for the largest set, one for its dual set, and for each
 -- size from 1 on a row for its set and two signed numbers of eight bytes for each offer. Assumes nothing: these are definitions.
-use Rattle.std.specs.Prelude.{◌≡◌, ℕ, ◌+◌, ◌-◌, ◌*◌, ◌<◌, ◌≤◌, Bool, false, List, length, ℤ}
+use Rattle.std.specs.Prelude.{◌≡◌, ℕ, ◌+◌, ◌-◌, ◌*◌, ◌<◌, ◌≤◌, false, List, length, ℤ}
 use Rattle.std.specs.Int.{w64}
 use Rattle.std.proofs.Common.{to_z}
-use Rattle.sets.specs.Bits.{row, row_bytes, row_words, le8}
+use Rattle.sets.specs.Bits.{row, row_bytes, le8}
 use Rattle.sets.specs.Matroid.{Set, size}
 
 -- row i begins behind i rows and the numbers of i - 2 sizes

@@ -1,5 +1,5 @@
 -- What an accepted certificate shows. Assumes nothing: statements whose proofs are owed by the functions that name them.
-use Rattle.std.specs.Prelude.{◌≡◌, ℕ, ◌≤◌, Bool, true, ◌⊎◌, List}
+use Rattle.std.specs.Prelude.{◌≡◌, ℕ, ◌≤◌, Bool, true, List}
 use Rattle.sets.specs.Matroid.{Set, size, weight, Matroid}
 use Rattle.sets.specs.declared.refusal.Refusal.{Refusal}
 use Rattle.certificate.specs.Layout.{largest_set, sized_set, count}

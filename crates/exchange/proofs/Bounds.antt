@@ -1,9 +1,9 @@
 -- The labels stay small while they are made.
-use Rattle.std.proofs.Common.{◌≡◌, ℕ, zero, suc, ◌+◌, ◌-◌, ◌*◌, ◌<◌, ◌≤◌, Bool, true, false, not, ◌&&◌, ◌||◌, eqb, ltb, leb, ◌⊎◌, sym, refl, ap, ◌∙◌, inl, inr, ⊎_elim, arith}
-use Rattle.std.proofs.lemmas.Bool.{cases_Bool, both_ways}
+use Rattle.std.proofs.Common.{◌≡◌, ℕ, ◌+◌, ◌-◌, ◌*◌, ◌<◌, ◌≤◌, Bool, true, false, sym, ap, ◌∙◌, ⊎_elim, arith}
+use Rattle.std.proofs.lemmas.Bool.{cases_Bool}
 use Rattle.sets.specs.Matroid.{pick, Set}
 use Rattle.exchange.specs.Round.{top, Before}
-use Rattle.exchange.specs.Graph.{cost, takes, bettered, Changed, Priced, SmallLabels}
+use Rattle.exchange.specs.Graph.{cost, bettered, Changed, Priced, SmallLabels}
 use Rattle.exchange.proofs.Settling.{pick_true, pick_false, better_parts, or_false}
 
 -- an arc's cost keeps the bound

@@ -1,7 +1,7 @@
 -- The least of the elements below i, while i grows.
-use Rattle.std.proofs.Common.{◌≡◌, ℕ, zero, suc, ◌+◌, ◌<◌, ◌≤◌, Bool, true, false, not, ◌&&◌, ◌||◌, eqb, ltb, leb, Some, None, Option, sym, refl, ap, ◌∙◌, subst, ⊎_elim, arith, MatchOption}
+use Rattle.std.proofs.Common.{◌≡◌, ℕ, ◌+◌, ◌<◌, ◌≤◌, Bool, true, false, not, Some, None, Option, sym, refl, ◌∙◌, subst, ⊎_elim, arith, MatchOption}
 use Rattle.std.proofs.lemmas.Bool.{cases_eq, cases_lt, both_ways, not-true, not-false}
-use Rattle.sets.specs.Matroid.{pick, Set}
+use Rattle.sets.specs.Matroid.{Set}
 use Rattle.exchange.specs.Round.{Before}
 use Rattle.exchange.specs.Graph.{Least}
 use Rattle.exchange.proofs.Settling.{before_refl, before_trans, before_other}

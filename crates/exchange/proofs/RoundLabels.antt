@@ -1,10 +1,10 @@
 -- The labels of the graph are the labels of the round; its path; the closed set where no sink is reached.
-use Rattle.std.proofs.Common.{◌≡◌, ℕ, zero, suc, ◌+◌, ◌-◌, ◌*◌, ◌<◌, ◌≤◌, Bool, true, false, not, ◌&&◌, ◌||◌, eqb, ltb, leb, ◌⊎◌, List, is_some, Some, None, Option, sym, refl, ap, ◌∙◌, subst, ⊎_elim, arith, MatchOption}
-use Rattle.std.proofs.lemmas.Bool.{cases_Bool, cases_lt, both_ways, and_from, and_parts}
+use Rattle.std.proofs.Common.{◌≡◌, ℕ, zero, suc, ◌+◌, ◌-◌, ◌<◌, ◌≤◌, Bool, true, false, not, ◌&&◌, List, is_some, Some, None, Option, sym, refl, ap, ◌∙◌, ⊎_elim, arith, MatchOption}
+use Rattle.std.proofs.lemmas.Bool.{cases_Bool, cases_lt, both_ways, and_parts}
 use Rattle.sets.specs.Bits.{marked}
 use Rattle.sets.specs.Matroid.{pick, Set, with, without, both}
-use Rattle.exchange.specs.Round.{top, State, Before, Labels, lost, End, behind, Closed}
-use Rattle.exchange.specs.Graph.{arc, addable, cost, table, Tables, Priced, Cheapest, Least, Reaching}
+use Rattle.exchange.specs.Round.{Before, Labels, lost, End, behind, Closed}
+use Rattle.exchange.specs.Graph.{cost, table, Tables, Priced, Cheapest, Least, Reaching}
 use Rattle.exchange.proofs.Rounds.{addable_from, to_out, to_in, to_sides, from_out, from_in, source_parts, is_end, unreached}
 
 -- a cost that is a difference, put on both sides

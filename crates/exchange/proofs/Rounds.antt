@@ -1,10 +1,10 @@
 -- From what the tables and the labels of the graph hold to the labels, the end and the closed set of a round.
-use Rattle.std.proofs.Common.{◌≡◌, ℕ, zero, suc, ◌+◌, ◌-◌, ◌*◌, ◌<◌, ◌≤◌, Bool, true, false, not, ◌&&◌, ◌||◌, eqb, ltb, leb, ◌⊎◌, List, sym, refl, ap, ◌∙◌, subst, ⊎_elim, arith}
-use Rattle.std.proofs.lemmas.Bool.{cases_Bool, cases_lt, both_ways, and_parts, and_from}
+use Rattle.std.proofs.Common.{◌≡◌, ℕ, ◌*◌, ◌<◌, ◌≤◌, Bool, true, false, not, ◌&&◌, List, sym, refl, ap, ◌∙◌, ⊎_elim, arith}
+use Rattle.std.proofs.lemmas.Bool.{cases_Bool, both_ways, and_parts, and_from}
 use Rattle.sets.specs.Bits.{marked}
 use Rattle.sets.specs.Matroid.{pick, Set, with, without, both}
-use Rattle.exchange.specs.Round.{top, State, Before, Labels, lost, End, behind, Closed}
-use Rattle.exchange.specs.Graph.{arc, addable, cost, table, Tables, Priced, Cheapest, Least, Reaching}
+use Rattle.exchange.specs.Round.{top, State, lost, End}
+use Rattle.exchange.specs.Graph.{arc, addable, table, Tables, Priced, Least}
 
 -- an addable element is outside and allowed, and so the other way round
 addable_parts : (f : Set → Bool) (s : Set) (x : ℕ) → addable f s x ≡ true → (s x ≡ false) × (f (with s x) ≡ true)

@@ -1,8 +1,8 @@
 -- The labels while the least unsettled one is settled turn by turn: what holds between turns, and that a turn keeps it.
-use Rattle.std.proofs.Common.{◌≡◌, ℕ, zero, suc, ◌+◌, ◌-◌, ◌*◌, ◌<◌, ◌≤◌, Bool, true, false, not, ◌&&◌, ◌||◌, eqb, ltb, leb, ◌⊎◌, sym, refl, ap, ◌∙◌, inl, inr, ⊎_elim, arith}
-use Rattle.std.proofs.lemmas.Bool.{cases_Bool, cases_eq, cases_lt, both_ways, and_parts}
-use Rattle.sets.specs.Matroid.{pick, Set, size}
-use Rattle.exchange.specs.Round.{top, Before}
+use Rattle.std.proofs.Common.{◌≡◌, ℕ, ◌+◌, ◌<◌, ◌≤◌, Bool, true, false, not, ◌&&◌, ◌||◌, eqb, ◌⊎◌, sym, refl, ap, ◌∙◌, ⊎_elim, arith}
+use Rattle.std.proofs.lemmas.Bool.{cases_Bool, both_ways, and_parts}
+use Rattle.sets.specs.Matroid.{pick, Set}
+use Rattle.exchange.specs.Round.{Before}
 use Rattle.exchange.specs.Graph.{Cheapest, bettered, Changed}
 
 -- what holds between two turns

@@ -1,5 +1,5 @@
 -- The path by predecessors, one step further.
-use Rattle.std.proofs.Common.{◌≡◌, ℕ, suc, ◌+◌, ◌<◌, Bool, not, eqb, sym, refl, ap, ◌∙◌, add-one}
+use Rattle.std.proofs.Common.{◌≡◌, ℕ, ◌+◌, Bool, not, eqb, sym, ap, ◌∙◌, add-one}
 use Rattle.sets.specs.Matroid.{pick, Set}
 use Rattle.exchange.specs.Round.{behind, flipped, toggled}
 

@@ -1,6 +1,6 @@
 -- The exchange graph of a round, its tables in lent words, and labels on a graph. Assumes nothing: these are definitions.
 -- s is the set at hand, w the weights, a the potentials, f and g the tests of the first and the second matroid.
-use Rattle.std.specs.Prelude.{◌≡◌, ℕ, zero, suc, ◌+◌, ◌-◌, ◌*◌, ◌<◌, ◌≤◌, Bool, true, false, not, ◌&&◌, ◌||◌, List, slice_index}
+use Rattle.std.specs.Prelude.{◌≡◌, ℕ, ◌+◌, ◌-◌, ◌*◌, ◌<◌, ◌≤◌, Bool, true, false, not, ◌&&◌, ◌||◌, List, slice_index}
 use Rattle.sets.specs.Bits.{marked, word_row, row_words}
 use Rattle.sets.specs.Matroid.{pick, Set, without, with}
 use Rattle.exchange.specs.Round.{top, Before}

@@ -1,8 +1,8 @@
 -- The links whose ends a set joins are a closure, and what one more link does to a set that is free under a closure.
-use Rattle.std.proofs.Common.{◌≡◌, ℕ, zero, suc, ◌+◌, ◌*◌, ◌<◌, ◌≤◌, Bool, true, false, not, ◌&&◌, ◌||◌, eqb, ◌⊎◌, sym, refl, ◌∙◌, inl, inr, ⊎_elim, arith}
-use Rattle.std.proofs.lemmas.Bool.{eqb-true, eq-eqb, cases_eq, cases_Bool, both_ways}
-use Rattle.sets.specs.Closure.{Closure, free}
-use Rattle.sets.specs.Matroid.{Set, with, without, Within}
+use Rattle.std.proofs.Common.{◌≡◌, ℕ, ◌<◌, true, false, ◌⊎◌, inl, inr, ⊎_elim, arith}
+use Rattle.std.proofs.lemmas.Bool.{cases_eq, both_ways}
+use Rattle.sets.specs.Closure.{Closure}
+use Rattle.sets.specs.Matroid.{Set, with, Within}
 use Rattle.graphic.specs.Links.{joined, spanned}
 use Rattle.graphic.proofs.Joined.{joined_refl, joined_sym, joined_trans, joined_link, joined_least}
 

@@ -1,8 +1,8 @@
 -- Towns joined by links: the least equivalence in which the ends of each link of the set are equivalent.
-use Rattle.std.proofs.Common.{◌≡◌, ℕ, zero, suc, ◌+◌, ◌*◌, ◌<◌, ◌≤◌, Bool, true, false, not, ◌&&◌, ◌||◌, eqb, ◌⊎◌, refl, inl, inr, ⊎_elim, arith}
-use Rattle.std.proofs.lemmas.Bool.{eqb-true, eq-eqb, cases_eq}
-use Rattle.sets.specs.Matroid.{Set, with, without, Within}
-use Rattle.graphic.specs.Links.{joined, spanned}
+use Rattle.std.proofs.Common.{◌≡◌, ℕ, zero, suc, ◌<◌, Bool, true, ◌&&◌, ◌||◌, eqb, ◌⊎◌, refl, inl, inr, ⊎_elim, arith}
+use Rattle.std.proofs.lemmas.Bool.{cases_eq}
+use Rattle.sets.specs.Matroid.{Set}
+use Rattle.graphic.specs.Links.{joined}
 
 module _ (from to : ℕ → ℕ) where
   -- no link at all joins a town with itself only

@@ -1,7 +1,6 @@
 -- The laws of links that stand on contracts.
-use Rattle.std.proofs.Common.{◌≡◌, ℕ, true, List}
+use Rattle.std.proofs.Common.{◌≡◌, true}
 use Rattle.sets.proofs.ClosureTheorem.{closure_matroid}
-use Rattle.sets.specs.Matroid.{Matroid}
 use Rattle.graphic.specs.Links.{from_town, to_town, spanned, JoinedLeast, LinksMatroid, NoRing}
 use Rattle.graphic.proofs.Closed.{closure}
 use Rattle.graphic.proofs.Joined.{joined_refl, joined_sym, joined_trans, joined_link, joined_least}

@@ -1,12 +1,12 @@
 -- What labels and rows of bits tell of the towns that a set of links joins, and how they change with one more link.
-use Rattle.std.proofs.Common.{◌≡◌, ℕ, zero, suc, ◌+◌, ◌<◌, ◌≤◌, Bool, true, false, not, ◌&&◌, ◌||◌, eqb, ◌⊎◌, sym, refl, ap, ◌∙◌, inl, inr, ⊎_elim, arith}
-use Rattle.std.proofs.lemmas.Bool.{cases_eq, cases_Bool, both_ways, eqb-true, eq-eqb, ne_eqb}
+use Rattle.std.proofs.Common.{◌≡◌, ℕ, ◌<◌, Bool, true, false, not, ◌&&◌, ◌||◌, eqb, ◌⊎◌, sym, refl, ap, ◌∙◌, ⊎_elim, arith}
+use Rattle.std.proofs.lemmas.Bool.{cases_eq, both_ways, eq-eqb, ne_eqb}
 use Rattle.sets.proofs.ClosureTheorem.{free_adds, free_exchanges}
 use Rattle.sets.specs.Bits.{xor}
 use Rattle.sets.specs.Closure.{free}
-use Rattle.sets.specs.Matroid.{Set, pick, with, without, Within}
+use Rattle.sets.specs.Matroid.{Set, pick, with, without}
 use Rattle.graphic.specs.Links.{joined, spanned}
-use Rattle.graphic.proofs.Closed.{By, closure, joined_with, with_joined, joined_within}
+use Rattle.graphic.proofs.Closed.{closure, joined_with, with_joined, joined_within}
 use Rattle.graphic.proofs.Joined.{joined_least, joined_link}
 
 -- two bits that do not differ are the same

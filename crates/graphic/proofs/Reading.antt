@@ -1,12 +1,12 @@
 -- Reading a rule of links: what it answers, and that a refusal is the first of all faults.
-use Rattle.std.proofs.Common.{◌≡◌, ℕ, zero, suc, ◌+◌, ◌-◌, ◌*◌, ◌/◌, ◌%◌, ◌<◌, ◌≤◌, Bool, true, false, cond, ltb, leb, ◌⊎◌, List, length, Ok, Err, Result, sym, refl, ap, ◌∙◌, inl, inr, ⊎_elim, arith}
+use Rattle.std.proofs.Common.{◌≡◌, ℕ, zero, suc, ◌+◌, ◌-◌, ◌*◌, ◌/◌, ◌%◌, ◌<◌, ◌≤◌, Bool, true, false, cond, ltb, leb, ◌⊎◌, List, length, Ok, Err, Result, refl, inl, inr, ⊎_elim, arith}
 use Rattle.std.proofs.lemmas.Bool.{ltb-true, ltb-false, leb-true, leb-false, le-ltb, lt-leb, cases_lt, cases_eq}
 use Rattle.sets.specs.declared.refusal.Refusal.{Refusal}
 use Rattle.sets.specs.declared.refusal.Refusal.TheVariants.{Length, Range, Town}
 use Rattle.sets.specs.declared.refusal.Source.TheVariants.{Offers}
 use Rattle.sets.specs.Bits.{le2}
-use Rattle.sets.specs.Refusals.{First, Precedes, place, number}
-use Rattle.graphic.specs.Links.{from_town, to_town, Well, read, read_towns, end, Fault, ReadsWell, RefusesFirst}
+use Rattle.sets.specs.Refusals.{First, Precedes, place}
+use Rattle.graphic.specs.Links.{Well, read, read_towns, end, Fault, ReadsWell, RefusesFirst}
 use Rattle.graphic.specs.Links.Fault.{short, many, missing}
 
 -- a test that would refuse was passed on the way to an answer

@@ -1,11 +1,11 @@
 -- A set of links has a ring exactly if some link of it has its ends joined by others of it.
-use Rattle.std.proofs.Common.{◌≡◌, ℕ, zero, suc, ◌+◌, ◌-◌, ◌<◌, ◌≤◌, Bool, true, false, not, ◌&&◌, ◌||◌, eqb, ltb, ◌⊎◌, sym, refl, ap, ◌∙◌, inl, inr, ⊎_elim, arith}
-use Rattle.std.proofs.lemmas.Bool.{cases_eq, cases_Bool, cases_lt, both_ways}
+use Rattle.std.proofs.Common.{◌≡◌, ℕ, zero, suc, ◌+◌, ◌-◌, ◌<◌, ◌≤◌, true, false, ltb, sym, refl, ap, ◌∙◌, inl, inr, ⊎_elim, arith}
+use Rattle.std.proofs.lemmas.Bool.{cases_Bool, cases_lt, both_ways}
 use Rattle.sets.specs.Closure.{free}
 use Rattle.sets.specs.Matroid.{Set, pick, without}
 use Rattle.graphic.specs.Links.{Joins, Ring, joined, spanned}
 use Rattle.graphic.proofs.Free.{free_not, free_fails}
-use Rattle.graphic.proofs.Joined.{joined_refl, joined_sym, joined_trans, joined_link, joined_step, joined_none, Ways, ways}
+use Rattle.graphic.proofs.Joined.{joined_refl, joined_sym, joined_trans, joined_link, joined_none, Ways, ways}
 
 -- a chain of different links of a set, from one town to another
 record Chain (from to : ℕ → ℕ) (n : ℕ) (s : Set) (u v : ℕ) : Type 0 where

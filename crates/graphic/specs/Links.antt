@@ -1,5 +1,5 @@
 -- Links between towns: each offer is a link, and a set is allowed if there is no ring in it.
-use Rattle.std.specs.Prelude.{◌≡◌, ℕ, zero, suc, ◌+◌, ◌*◌, ◌<◌, ◌≤◌, Bool, true, false, cond, not, ◌&&◌, ◌||◌, ◌⊎◌, List, length, Ok, Err, Result, ◌==◌, ◌≢◌, nat_le, nat_lt, slice_index}
+use Rattle.std.specs.Prelude.{◌≡◌, ℕ, zero, suc, ◌+◌, ◌*◌, ◌<◌, ◌≤◌, Bool, true, cond, ◌&&◌, ◌||◌, ◌⊎◌, List, length, Ok, Err, Result, ◌==◌, ◌≢◌, nat_le, nat_lt, slice_index}
 use Rattle.sets.specs.declared.refusal.Refusal.{Refusal}
 use Rattle.sets.specs.declared.refusal.Refusal.TheVariants.{Length, Range, Town}
 use Rattle.sets.specs.declared.refusal.Source.TheVariants.{Offers}

@@ -1,8 +1,7 @@
 -- Reading a whole file of offers.
-use Rattle.std.proofs.Common.{◌≡◌, ℕ, zero, suc, ◌+◌, ◌*◌, ◌<◌, ◌≤◌, Bool, true, false, cond, ◌||◌, eqb, ltb, ◌⊎◌, List, length, get_or, Ok, Err, Result, sym, refl, ap, ◌∙◌, subst, inl, inr, ⊎_elim, arith, MatchResult}
-use Rattle.std.proofs.lemmas.Bool.{ltb-true, ltb-false, eqb-true, eqb-false, or_cases, or_parts, cases_lt}
-use Rattle.sets.specs.Bits.{le4}
-use Rattle.sets.specs.Refusals.{First, Precedes, place, number}
+use Rattle.std.proofs.Common.{◌≡◌, ℕ, zero, suc, ◌+◌, ◌<◌, ◌≤◌, true, ◌||◌, eqb, ltb, ◌⊎◌, List, length, Ok, Err, Result, sym, refl, ap, ◌∙◌, subst, inl, inr, ⊎_elim, arith, MatchResult}
+use Rattle.std.proofs.lemmas.Bool.{ltb-true, ltb-false, eqb-true, eqb-false, or_cases, or_parts}
+use Rattle.sets.specs.Refusals.{First, place, number}
 use Rattle.sets.specs.declared.refusal.Refusal.{Refusal}
 use Rattle.sets.specs.declared.refusal.Refusal.TheVariants.{Length, Weight}
 use Rattle.sets.specs.declared.refusal.Refusal.TheVariants as refused
@@ -10,7 +9,7 @@ use Rattle.sets.specs.declared.refusal.Source.TheVariants.{Offers}
 use Rattle.matroid.specs.declared.rule.Rule.{Rule}
 use Rattle.matroid.specs.declared.rule.Rule.TheVariants.{Limits, Volunteers, Links, Rows}
 use Rattle.matroid.specs.declared.problem.Problem.{Problem}
-use Rattle.matroid.specs.Problem.{offers, weight_of, rules_at, rule_end, Stands, Means}
+use Rattle.matroid.specs.Problem.{offers, rules_at, rule_end, Stands, Means}
 use Rattle.matroid.specs.Reading.{and_then, read_weights, read_rule, read_end, read, end_at, Known, RuleFault, second_at, end_of, Fault, ReadsMeaning, RefusesFirst, Faultless, MeansWell}
 use Rattle.matroid.specs.Reading.Fault.{no_number, wrong_number, cut, heavy, first, second, too_long}
 use Rattle.matroid.specs.Rules.{Well}

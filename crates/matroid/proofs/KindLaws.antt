@@ -1,7 +1,6 @@
 -- What each kind of rule promises of its reading, in one form for all four.
-use Rattle.std.proofs.Common.{◌≡◌, ℕ, zero, suc, ◌+◌, ◌*◌, ◌<◌, ◌≤◌, Bool, true, false, ◌⊎◌, List, length, get_or, Ok, Err, Result, sym, refl, ap, ◌∙◌, inl, inr, ⊎_elim, arith}
+use Rattle.std.proofs.Common.{◌≡◌, ℕ, ◌+◌, ◌≤◌, List, length, get_or, arith}
 use Rattle.sets.specs.Bits.{le2}
-use Rattle.sets.specs.Refusals.{First}
 use Rattle.sets.specs.declared.refusal.Refusal.{Refusal}
 use Rattle.matroid.proofs.Stages.{Sound, Located}
 use Rattle.laminar.specs.Reading as laminar

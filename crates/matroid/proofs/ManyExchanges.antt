@@ -1,7 +1,7 @@
 -- Many exchanges at once: the pairs that are still to be exchanged are a set of indices; one of the least keys is taken first.
 use Rattle.std.proofs.Common.{◌≡◌, ℕ, zero, suc, ◌+◌, ◌<◌, ◌≤◌, Bool, true, false, not, ◌&&◌, ◌||◌, eqb, ◌⊎◌, sym, refl, ap, ◌∙◌, subst, ⊎_elim, arith}
 use Rattle.std.proofs.lemmas.Bool.{cases_Bool, cases_lt, cases_eq, both_ways}
-use Rattle.sets.specs.Matroid.{Set, size, weight, without, with, none, Matroid}
+use Rattle.sets.specs.Matroid.{Set, size, weight, without, with, Matroid}
 use Rattle.sets.proofs.FiniteSets.{size_same, size_without, size_exchange, look_up, least}
 use Rattle.sets.proofs.Weights.{weight_same, weight_exchange}
 use Rattle.sets.proofs.MatroidLaws.{allowed_within, refused_within, allowed_same}

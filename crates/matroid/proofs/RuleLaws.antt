@@ -1,8 +1,6 @@
 -- Rules of the four kinds: each is a matroid, and its test says what the kind allows.
-use Rattle.std.proofs.Common.{ℕ, List}
-use Rattle.matroid.specs.declared.rule.Rule.{Rule}
 use Rattle.matroid.specs.declared.rule.Rule.TheVariants.{Limits, Volunteers, Links, Rows}
-use Rattle.matroid.specs.Rules.{allows, Allowed, Well, RulesMatroid, RulesNatural}
+use Rattle.matroid.specs.Rules.{RulesMatroid, RulesNatural}
 use Rattle.laminar.proofs.Laws as laminar
 use Rattle.transversal.proofs.Laws as transversal
 use Rattle.graphic.proofs.Laws as graphic

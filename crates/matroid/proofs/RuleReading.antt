@@ -1,17 +1,17 @@
 -- Reading one rule, of whichever kind.
-use Rattle.std.proofs.Common.{◌≡◌, ℕ, zero, suc, ◌+◌, ◌*◌, ◌<◌, ◌≤◌, Bool, true, false, cond, eqb, ltb, leb, ◌⊎◌, List, length, get_or, Ok, Err, Result, sym, refl, ap, ◌∙◌, inl, inr, ⊎_elim, arith}
-use Rattle.std.proofs.lemmas.Bool.{leb-true, leb-false, eqb-true, eqb-false, eq-eqb, ne_eqb}
-use Rattle.sets.specs.Refusals.{First, Precedes, place, number}
+use Rattle.std.proofs.Common.{◌≡◌, ℕ, ◌+◌, ◌<◌, ◌≤◌, eqb, leb, ◌⊎◌, List, length, get_or, Ok, Err, Result, sym, refl, ap, ◌∙◌, inl, inr, arith}
+use Rattle.std.proofs.lemmas.Bool.{leb-true, leb-false, eqb-true, eqb-false}
+use Rattle.sets.specs.Refusals.{First, Precedes}
 use Rattle.sets.specs.declared.refusal.Refusal.{Refusal}
 use Rattle.sets.specs.declared.refusal.Refusal.TheVariants.{Length, Kind}
 use Rattle.sets.specs.declared.refusal.Source.TheVariants.{Offers}
 use Rattle.matroid.specs.declared.rule.Rule.{Rule}
 use Rattle.matroid.specs.declared.rule.Rule.TheVariants.{Limits, Volunteers, Links, Rows}
-use Rattle.matroid.specs.Problem.{rule_end, Stands}
-use Rattle.matroid.specs.Reading.{and_then, read_kind, read_rule, end_kind, end_at, Known, RuleFault}
+use Rattle.matroid.specs.Problem.{Stands}
+use Rattle.matroid.specs.Reading.{and_then, read_rule, RuleFault}
 use Rattle.matroid.specs.Reading.RuleFault.{no_kind, unknown, limits, volunteers, links, rows}
-use Rattle.matroid.proofs.Stages.{Sound, Located, tested, either_way, no_answer}
-use Rattle.matroid.proofs.KindLaws.{LimitsGood, limits_sound, limits_located, VolunteersGood, volunteers_sound, volunteers_located, LinksGood, links_sound, links_located, RowsGood, rows_sound, rows_located}
+use Rattle.matroid.proofs.Stages.{Sound, tested, either_way, no_answer}
+use Rattle.matroid.proofs.KindLaws.{LimitsGood, limits_sound, VolunteersGood, volunteers_sound, LinksGood, links_sound, RowsGood, rows_sound}
 use Rattle.laminar.specs.Reading as laminar
 use Rattle.transversal.specs.Reading as transversal
 use Rattle.graphic.specs.Links as graphic

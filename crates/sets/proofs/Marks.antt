@@ -1,12 +1,12 @@
 -- Rows of bits in a list of numbers of w bits each: what a write of one number does to all of them.
-use Rattle.std.proofs.Common.{◌≡◌, ℕ, zero, suc, ◌+◌, ◌-◌, ◌*◌, ◌/◌, ◌%◌, ◌^◌, ◌<◌, ◌≤◌, Bool, true, false, not, ◌&&◌, ◌||◌, eqb, ltb, leb, ◌⊎◌, List, length, get_or, set, sym, refl, ap, ◌∙◌, inl, inr, ⊎_elim, mod-lt, div-add-mod', add-one, arith}
-use lib.Bits.{bit_and, bit_or, bit_xor}
+use Rattle.std.proofs.Common.{◌≡◌, ℕ, ◌+◌, ◌-◌, ◌*◌, ◌/◌, ◌%◌, ◌^◌, ◌<◌, ◌≤◌, Bool, true, false, not, ◌&&◌, ◌||◌, eqb, List, length, get_or, set, sym, refl, ap, ◌∙◌, ⊎_elim, mod-lt, div-add-mod', add-one, arith}
+use lib.Bits.{bit_and, bit_or}
 use Rattle.std.proofs.lemmas.List.{get_or-set_same, get_or-set_other}
 use Rattle.std.proofs.lemmas.Nat.{pow_pos}
-use Rattle.std.proofs.lemmas.Bool.{cases_eq, eq-eqb, ne_eqb, eqb-true}
-use Rattle.sets.specs.Bits.{member, marked, xor, SameBut}
+use Rattle.std.proofs.lemmas.Bool.{cases_eq, eq-eqb, ne_eqb}
+use Rattle.sets.specs.Bits.{member, marked, SameBut}
 use Rattle.sets.specs.Matroid.{Set, size, pick}
-use Rattle.sets.proofs.Masks.{bit, bit_or_lem, bit_and_lem, bit_xor_lem, bit_one, bit_not}
+use Rattle.sets.proofs.Masks.{bit, bit_or_lem, bit_and_lem, bit_one, bit_not}
 
 -- bit i of a list of numbers of w bits each
 abbrev pub spread : ℕ → List ℕ → ℕ → Bool

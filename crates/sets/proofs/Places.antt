@@ -1,9 +1,9 @@
 -- Rows side by side: what a write to one row leaves of the others, and a bit of a row in the row's own count.
-use Rattle.std.proofs.Common.{◌≡◌, ℕ, zero, suc, ◌+◌, ◌-◌, ◌*◌, ◌/◌, ◌%◌, ◌^◌, ◌<◌, ◌≤◌, Bool, true, false, not, ◌&&◌, ◌||◌, eqb, ltb, leb, ◌⊎◌, List, length, get_or, set, sym, refl, ap, ◌∙◌, inl, inr, ⊎_elim, add-mul, arith}
+use Rattle.std.proofs.Common.{◌≡◌, ℕ, ◌+◌, ◌*◌, ◌/◌, ◌<◌, ◌≤◌, Bool, not, ◌&&◌, ◌||◌, eqb, ◌⊎◌, List, ap, ◌∙◌, inl, inr, ⊎_elim, add-mul, arith}
 use Rattle.std.proofs.lemmas.Bool.{cases_order}
 use Rattle.std.proofs.lemmas.Nat.{mul-le}
-use Rattle.sets.specs.Bits.{member, marked, row, word_row, SameBut}
-use Rattle.sets.specs.Matroid.{Set, with, without}
+use Rattle.sets.specs.Bits.{marked, word_row, SameBut}
+use Rattle.sets.specs.Matroid.{with, without}
 use Rattle.sets.proofs.Stretches.{marks_outside}
 
 -- a shift of both leaves the test of two numbers

@@ -1,10 +1,9 @@
 -- A stretch of a list rewritten number by number, and what that does to the bits.
-use Rattle.std.proofs.Common.{◌≡◌, ℕ, zero, suc, ◌+◌, ◌-◌, ◌*◌, ◌/◌, ◌%◌, ◌^◌, ◌<◌, ◌≤◌, Bool, true, false, not, ◌&&◌, ◌||◌, eqb, ltb, leb, ◌⊎◌, List, length, get_or, set, sym, refl, ap, ◌∙◌, inl, inr, ⊎_elim, arith}
-use lib.Bits.{bit_and, bit_or, bit_xor}
+use Rattle.std.proofs.Common.{◌≡◌, ℕ, ◌+◌, ◌*◌, ◌/◌, ◌%◌, ◌<◌, ◌≤◌, ◌⊎◌, List, length, get_or, set, sym, refl, ap, ◌∙◌, inl, inr, ⊎_elim, arith}
 use Rattle.std.proofs.lemmas.List.{get_or-set_same, get_or-set_other}
 use Rattle.std.proofs.lemmas.Bool.{cases_eq, cases_lt}
-use Rattle.sets.specs.Bits.{member, marked, row, word_row, xor, SameBut}
-use Rattle.sets.proofs.Masks.{bit, bit_or_lem, bit_and_lem, bit_xor_lem}
+use Rattle.sets.specs.Bits.{member, marked, row, word_row, SameBut}
+use Rattle.sets.proofs.Masks.{bit}
 
 -- ys is xs with f p written at place at + p, for each p below k
 pub record Rewritten (f : ℕ → ℕ) (at k : ℕ) (xs ys : List ℕ) : Type 0 where

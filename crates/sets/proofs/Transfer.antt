@@ -1,13 +1,13 @@
 -- Rows of bits that go from bytes into words and back.
-use Rattle.std.proofs.Common.{◌≡◌, ℕ, zero, suc, ◌+◌, ◌-◌, ◌*◌, ◌/◌, ◌%◌, ◌^◌, ◌<◌, ◌≤◌, Bool, true, false, not, ◌&&◌, ◌||◌, eqb, ltb, leb, ◌⊎◌, List, length, get_or, set, sym, refl, ap, ◌∙◌, inl, inr, ⊎_elim, mod-eq_of_lt, arith}
+use Rattle.std.proofs.Common.{◌≡◌, ℕ, ◌+◌, ◌-◌, ◌*◌, ◌/◌, ◌%◌, ◌^◌, ◌<◌, ◌≤◌, Bool, true, false, ◌&&◌, ◌||◌, ltb, leb, List, length, get_or, set, sym, ap, ◌∙◌, ⊎_elim, arith}
 use native.Mathlib.Nat.{mod-le}
 use lib.Bits.{bit_or}
 use Rattle.std.proofs.lemmas.Nat.{shl_whole}
 use Rattle.std.proofs.lemmas.List.{get_or-set_same, get_or-set_other}
 use Rattle.std.proofs.lemmas.Bool.{cases_eq, cases_lt, lt-ltb, le-ltb, ltb-true}
-use Rattle.sets.specs.Bits.{member, marked, row, word_row, SameBut}
+use Rattle.sets.specs.Bits.{row, word_row}
 use Rattle.sets.proofs.Masks.{bit, bit_or_lem, bit_shl, bit_shr, bit_low, bit_above}
-use Rattle.sets.proofs.Stretches.{word_row_is, row_is, Rewritten, rewritten_members}
+use Rattle.sets.proofs.Stretches.{word_row_is, row_is}
 
 -- the low r bits of a byte, put into byte q of a word
 byte_into : (w b r q i : ℕ) → b < 256 → q < 4 →

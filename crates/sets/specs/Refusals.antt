@@ -4,7 +4,6 @@ use Rattle.sets.specs.declared.refusal.Refusal.{Refusal}
 use Rattle.sets.specs.declared.refusal.Refusal.TheVariants.{Length, Offers, Weight, Kind, Range, Overlap, Town, Row, Short, Refused, Dual, Split}
 use Rattle.sets.specs.declared.refusal.Source.{Source}
 use Rattle.sets.specs.declared.refusal.Source.TheVariants.{Certificate}
-use Rattle.sets.specs.declared.refusal.Source.TheVariants as Source
 use Rattle.sets.specs.declared.refusal.Lent.{Lent}
 use Rattle.sets.specs.declared.refusal.Lent.TheVariants.{Sets, Numbers, Work}
 use Rattle.sets.specs.Matroid.{pick}

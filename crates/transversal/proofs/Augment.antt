@@ -1,7 +1,7 @@
 -- A smaller matched set can take an offer from a larger one.
-use Rattle.std.proofs.Common.{◌≡◌, ℕ, zero, suc, ◌+◌, ◌*◌, ◌<◌, ◌≤◌, Bool, true, false, not, ◌&&◌, ◌||◌, eqb, ltb, ◌⊎◌, sym, refl, ap, ◌∙◌, inl, inr, ⊎_elim, arith}
-use Rattle.std.proofs.lemmas.Bool.{cases_Bool, cases_lt, cases_eq}
-use Rattle.sets.specs.Matroid.{pick, Set, size, without, with, none, Within}
+use Rattle.std.proofs.Common.{◌≡◌, ℕ, zero, suc, ◌<◌, ◌≤◌, Bool, true, false, not, ◌&&◌, eqb, refl, ap, ⊎_elim, arith}
+use Rattle.std.proofs.lemmas.Bool.{cases_eq}
+use Rattle.sets.specs.Matroid.{Set, size, without, with}
 use Rattle.sets.proofs.FiniteSets.{look_up, size_without, size_within}
 use Rattle.transversal.specs.Volunteers.{Tends, some}
 use Rattle.transversal.proofs.Matchings.{put, put_tends, no_larger, last, some_last, some_from}

@@ -1,9 +1,9 @@
 -- What closed sets of offers say: who can come to a matched set, and who cannot.
-use Rattle.std.proofs.Common.{◌≡◌, ℕ, zero, suc, ◌+◌, ◌*◌, ◌<◌, ◌≤◌, Bool, true, false, not, ◌&&◌, ◌||◌, eqb, ltb, leb, ◌⊎◌, sym, refl, ap, ◌∙◌, inl, inr, ⊎_elim, arith}
+use Rattle.std.proofs.Common.{◌≡◌, ℕ, ◌<◌, ◌≤◌, Bool, true, false, not, ◌&&◌, ◌||◌, eqb, ltb, leb, ◌⊎◌, sym, refl, ap, ◌∙◌, inl, inr, ⊎_elim, arith}
 use Rattle.std.proofs.lemmas.Bool.{cases_Bool, cases_lt, cases_eq, lt-ltb}
-use Rattle.sets.specs.Matroid.{pick, Set, without, with, none, Within}
-use Rattle.transversal.specs.Volunteers.{Tends, some}
-use Rattle.transversal.specs.Pairs.{matched, Paired, Shut, Stuck, Chain, one, more, start, start_free}
+use Rattle.sets.specs.Matroid.{Set, without, with, none, Within}
+use Rattle.transversal.specs.Volunteers.{Tends}
+use Rattle.transversal.specs.Pairs.{matched, Paired, Stuck, Chain, one, more, start, start_free}
 use Rattle.transversal.proofs.Matchings.{part_tends, cut, last, some_last, some_from}
 use Rattle.transversal.proofs.Augment.{busy, idle}
 use Rattle.transversal.proofs.Growth.{Grown, begin, seed, onward, comes, blocked}

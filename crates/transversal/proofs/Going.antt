@@ -1,10 +1,9 @@
 -- The queue of volunteers grows: who is come to, and what is done.
-use Rattle.std.proofs.Common.{◌≡◌, ℕ, zero, suc, ◌+◌, ◌*◌, ◌<◌, ◌≤◌, Bool, true, false, not, ◌&&◌, ◌||◌, eqb, ltb, leb, ◌⊎◌, sym, refl, ap, ◌∙◌, inl, inr, ⊎_elim, arith}
-use mathlib.Core.Path.{fun_ext}
-use Rattle.std.proofs.lemmas.Bool.{cases_Bool, cases_lt, cases_eq}
-use Rattle.sets.specs.Matroid.{pick, Set, size, without, with, none}
+use Rattle.std.proofs.Common.{◌≡◌, ℕ, suc, ◌+◌, ◌<◌, ◌≤◌, Bool, true, false, ap, ◌∙◌, ⊎_elim, arith}
+use Rattle.std.proofs.lemmas.Bool.{cases_eq}
+use Rattle.sets.specs.Matroid.{Set, size, with}
 use Rattle.sets.proofs.FiniteSets.{size_with, size_bound}
-use Rattle.transversal.specs.Pairs.{Paired, Queued, Led, Leads, Shut, Stuck}
+use Rattle.transversal.specs.Pairs.{Paired, Queued, Led, Shut}
 use Rattle.transversal.proofs.Matchings.{put}
 
 module _ (can : ℕ → ℕ → Bool) (n volunteers : ℕ) (f o : ℕ → ℕ) where

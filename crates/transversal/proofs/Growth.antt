@@ -1,10 +1,9 @@
 -- Volunteers who can be made free: from those that are free, and from each offer whom one of them can look after.
-use Rattle.std.proofs.Common.{◌≡◌, ℕ, zero, suc, ◌+◌, ◌*◌, ◌<◌, ◌≤◌, Bool, true, false, not, ◌&&◌, ◌||◌, eqb, ltb, leb, ◌⊎◌, sym, refl, ap, ◌∙◌, inl, inr, ⊎_elim, arith}
-use Rattle.std.proofs.lemmas.Bool.{cases_Bool, cases_lt, cases_eq}
-use Rattle.sets.specs.Matroid.{pick, Set, size, without, with, none, Within}
+use Rattle.std.proofs.Common.{◌≡◌, ℕ, suc, ◌<◌, ◌≤◌, Bool, true, false, not, ◌&&◌, eqb, refl, ap, ◌∙◌, ⊎_elim, arith}
+use Rattle.std.proofs.lemmas.Bool.{cases_Bool, cases_eq}
+use Rattle.sets.specs.Matroid.{Set, size, without, with, none}
 use Rattle.sets.proofs.FiniteSets.{size_without}
-use Rattle.transversal.specs.Volunteers.{Tends, some}
-use Rattle.transversal.specs.Pairs.{Chain, one, more}
+use Rattle.transversal.specs.Volunteers.{Tends}
 use Rattle.transversal.proofs.Matchings.{put, put_tends, no_larger, last, some_last}
 use Rattle.transversal.proofs.Augment.{busy, idle}
 

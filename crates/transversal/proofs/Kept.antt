@@ -1,6 +1,5 @@
 -- The kept rows are right for the set.
-use Rattle.std.proofs.Common.{◌≡◌, ℕ, zero, suc, ◌+◌, ◌*◌, ◌<◌, ◌≤◌, Bool, true, false, not, ◌&&◌, ◌||◌, eqb, ltb, leb, ◌⊎◌, List, length, sym, refl, ap, ◌∙◌, inl, inr, ⊎_elim, arith}
-use Rattle.std.proofs.lemmas.Bool.{cases_Bool}
+use Rattle.std.proofs.Common.{◌≡◌, ℕ, ◌+◌, ◌<◌, ◌≤◌, Bool, true, false, ◌&&◌, ◌||◌, leb, List, length, sym, ap, ◌∙◌, arith}
 use Rattle.sets.specs.Bits.{row_words}
 use Rattle.sets.specs.Matroid.{Set, with, without, Within}
 use Rattle.transversal.specs.Volunteers.{can_tend, Tends, allows, in_row, kept_length, Ready}

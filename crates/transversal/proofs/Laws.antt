@@ -1,7 +1,7 @@
 -- The natural reading and the test say the same, and a rule of volunteers is a matroid.
-use Rattle.std.proofs.Common.{◌≡◌, ℕ, ◌<◌, Bool, true, false, List, refl, arith}
-use Rattle.sets.specs.Matroid.{Set, size, with, none, Within, Matroid, Hereditary, Augmentable}
-use Rattle.transversal.specs.Volunteers.{can_tend, Tends, Allowed, allows, Well, ReadingAgrees, VolunteersMatroid}
+use Rattle.std.proofs.Common.{◌≡◌, ℕ, true, List, refl, arith}
+use Rattle.sets.specs.Matroid.{Set, with, none, Hereditary, Augmentable}
+use Rattle.transversal.specs.Volunteers.{can_tend, Allowed, allows, ReadingAgrees, VolunteersMatroid}
 use Rattle.transversal.proofs.Matchings.{placed_tends, tends_placed, part_tends}
 use Rattle.transversal.proofs.Augment.{grows}
 

@@ -1,8 +1,8 @@
 -- Matchings of offers with volunteers: the test finds one where there is one, and a smaller matched set can take an offer from a larger.
-use Rattle.std.proofs.Common.{◌≡◌, ℕ, zero, suc, ◌+◌, ◌*◌, ◌<◌, ◌≤◌, Bool, true, false, not, ◌&&◌, ◌||◌, eqb, ltb, ◌⊎◌, sym, refl, ap, ◌∙◌, inl, inr, ⊎_elim, arith}
-use Rattle.std.proofs.lemmas.Bool.{cases_Bool, cases_lt, cases_eq}
-use Rattle.sets.specs.Matroid.{pick, Set, size, without, with, none, Within, Matroid, Hereditary, Augmentable}
-use Rattle.sets.proofs.FiniteSets.{look_up, size_without, size_within}
+use Rattle.std.proofs.Common.{◌≡◌, ℕ, zero, suc, ◌<◌, ◌≤◌, Bool, true, false, not, ◌&&◌, eqb, ltb, refl, ⊎_elim, arith}
+use Rattle.std.proofs.lemmas.Bool.{cases_lt, cases_eq}
+use Rattle.sets.specs.Matroid.{pick, Set, size, without, with, Within}
+use Rattle.sets.proofs.FiniteSets.{size_without}
 use Rattle.transversal.specs.Volunteers.{Tends, some, placed}
 
 -- f changed at one place

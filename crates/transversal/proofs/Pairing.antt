@@ -1,11 +1,10 @@
 -- Pairs of offers and volunteers: how they change as an offer takes a volunteer, and how the queue of volunteers grows.
-use Rattle.std.proofs.Common.{◌≡◌, ℕ, zero, suc, ◌+◌, ◌*◌, ◌<◌, ◌≤◌, Bool, true, false, not, ◌&&◌, ◌||◌, eqb, ltb, leb, ◌⊎◌, List, length, get_or, set, sym, refl, ap, ◌∙◌, inl, inr, ⊎_elim, arith}
+use Rattle.std.proofs.Common.{◌≡◌, ℕ, ◌+◌, ◌<◌, ◌≤◌, Bool, true, List, length, get_or, set, sym, refl, ap, ◌∙◌, ⊎_elim, arith}
 use mathlib.Core.Path.{fun_ext}
 use Rattle.std.proofs.lemmas.List.{get_or-set_same, get_or-set_other, length-set}
-use Rattle.std.proofs.lemmas.Bool.{cases_Bool, cases_lt, cases_eq}
-use Rattle.sets.specs.Matroid.{pick, Set, size, without, with, none, Within}
-use Rattle.sets.proofs.FiniteSets.{size_with}
-use Rattle.transversal.specs.Pairs.{at, matched, Paired, Queued, Led, Leads, Shut, Stuck}
+use Rattle.std.proofs.lemmas.Bool.{cases_eq}
+use Rattle.sets.specs.Matroid.{Set, without, with}
+use Rattle.transversal.specs.Pairs.{at, matched, Paired, Queued, Led, Leads}
 use Rattle.transversal.proofs.Matchings.{put}
 
 -- a write to a list is a change at one place

@@ -1,13 +1,13 @@
 -- Reading a rule of volunteers: what it answers, and that a refusal is the first of all faults.
-use Rattle.std.proofs.Common.{◌≡◌, ℕ, zero, suc, ◌+◌, ◌-◌, ◌*◌, ◌<◌, ◌≤◌, Bool, true, false, cond, ltb, ◌⊎◌, List, length, Ok, Err, Result, sym, refl, ap, ◌∙◌, inl, inr, ⊎_elim, arith}
+use Rattle.std.proofs.Common.{◌≡◌, ℕ, zero, suc, ◌+◌, ◌-◌, ◌*◌, ◌<◌, ◌≤◌, Bool, true, false, cond, ltb, ◌⊎◌, List, length, Ok, Err, Result, refl, ap, ◌∙◌, inl, inr, ⊎_elim, arith}
 use Rattle.std.proofs.lemmas.Nat.{mul-le}
-use Rattle.std.proofs.lemmas.Bool.{ltb-true, ltb-false, lt-ltb, le-ltb, cases_lt, cases_eq, cases_order, cases_Bool}
+use Rattle.std.proofs.lemmas.Bool.{ltb-true, ltb-false, lt-ltb, le-ltb, cases_order, cases_Bool}
 use Rattle.sets.specs.declared.refusal.Refusal.{Refusal}
 use Rattle.sets.specs.declared.refusal.Refusal.TheVariants.{Length, Range}
 use Rattle.sets.specs.declared.refusal.Source.TheVariants.{Offers}
 use Rattle.sets.specs.Bits.{row, row_bytes}
-use Rattle.sets.specs.Refusals.{First, Precedes, place, number}
-use Rattle.transversal.specs.Volunteers.{can_tend, some, Well}
+use Rattle.sets.specs.Refusals.{First, Precedes, place}
+use Rattle.transversal.specs.Volunteers.{can_tend, Well}
 use Rattle.transversal.specs.Reading.{count, end, Fault, short, many, stray_bit, stray, read_rows, read, ReadsWell, RefusesFirst}
 use Rattle.transversal.proofs.Matchings.{last, some_last, some_from}
 

@@ -1,9 +1,9 @@
 -- One turn of each loop over the kept rows.
-use Rattle.std.proofs.Common.{◌≡◌, ℕ, zero, suc, ◌+◌, ◌-◌, ◌*◌, ◌/◌, ◌%◌, ◌<◌, ◌≤◌, Bool, true, false, not, ◌&&◌, ◌||◌, eqb, ltb, leb, ◌⊎◌, List, sym, refl, ap, ◌∙◌, inl, inr, ⊎_elim, arith}
-use Rattle.std.proofs.lemmas.Bool.{cases_lt, cases_eq, cases_Bool}
-use Rattle.sets.specs.Bits.{row, word_row, row_words, row_bytes, SameBut}
-use Rattle.transversal.specs.Volunteers.{can_tend, in_row, some}
-use Rattle.transversal.specs.Pairs.{can_by, matched, start, start_free, through}
+use Rattle.std.proofs.Common.{◌≡◌, ℕ, ◌+◌, ◌*◌, ◌<◌, ◌≤◌, Bool, true, false, ◌&&◌, ◌||◌, ltb, leb, ◌⊎◌, List, sym, ap, ◌∙◌, ⊎_elim, arith}
+use Rattle.std.proofs.lemmas.Bool.{cases_lt, cases_eq}
+use Rattle.sets.specs.Bits.{row, word_row, row_bytes, SameBut}
+use Rattle.transversal.specs.Volunteers.{can_tend, in_row}
+use Rattle.transversal.specs.Pairs.{can_by, start, start_free, through}
 use Rattle.transversal.proofs.RowFacts.{other_row, some_more, some_same}
 
 -- one more volunteer's row was read

@@ -1,13 +1,12 @@
 -- One turn of the queue, over the lists that the code writes.
-use Rattle.std.proofs.Common.{◌≡◌, ℕ, zero, suc, ◌+◌, ◌-◌, ◌*◌, ◌<◌, ◌≤◌, Bool, true, false, not, ◌&&◌, ◌||◌, eqb, ltb, leb, List, length, set, sym, refl, ap, ◌∙◌, arith}
+use Rattle.std.proofs.Common.{◌≡◌, ℕ, suc, ◌+◌, ◌-◌, ◌*◌, ◌<◌, ◌≤◌, Bool, true, false, ◌||◌, eqb, List, length, set, arith}
 use mathlib.Core.Path.{fun_ext}
 use Rattle.std.proofs.lemmas.Nat.{mul-le}
 use Rattle.sets.specs.Bits.{marked, word_row}
-use Rattle.sets.specs.Matroid.{Set, size, with}
+use Rattle.sets.specs.Matroid.{size, with}
 use Rattle.sets.proofs.Places.{row_with}
 use Rattle.sets.proofs.FiniteSets.{size_with, size_bound}
-use Rattle.transversal.specs.Pairs.{at, Paired, Led, Leads}
-use Rattle.transversal.proofs.Matchings.{put}
+use Rattle.transversal.specs.Pairs.{at, Paired, Leads}
 use Rattle.transversal.proofs.Pairing.{at_set}
 use Rattle.transversal.proofs.Going.{Going, led_in, going_in, going_push}
 

@@ -1,5 +1,5 @@
 -- What the inner functions keep: who looks after whom, from which offers a volunteer is come to, and rows that are closed.
-use Rattle.std.specs.Prelude.{◌≡◌, ℕ, zero, suc, ◌+◌, ◌*◌, ◌<◌, ◌≤◌, Bool, true, false, not, ◌&&◌, ◌||◌, ◌⊎◌, List, Some, None, Option, nat_le, nat_lt, slice_index}
+use Rattle.std.specs.Prelude.{◌≡◌, ℕ, ◌+◌, ◌<◌, ◌≤◌, Bool, true, false, ◌&&◌, ◌||◌, List, Some, None, Option, nat_le, nat_lt, slice_index}
 use Rattle.sets.specs.Matroid.{Set}
 use Rattle.transversal.specs.Volunteers.{in_row, some}
 

@@ -1,12 +1,11 @@
 -- What the last round leaves: a largest set with its dual set, and a heaviest set for every size.
-use Rattle.std.proofs.Common.{◌≡◌, ℕ, zero, suc, ◌+◌, ◌-◌, ◌*◌, ◌<◌, ◌≤◌, Bool, true, false, not, ◌&&◌, ◌||◌, List, pos, sym, refl, ap, ◌∙◌, subst, mul_assoc, mul_comm, add-mul, mul-add, arith}
+use Rattle.std.proofs.Common.{◌≡◌, ℕ, zero, suc, ◌+◌, ◌-◌, ◌*◌, ◌<◌, ◌≤◌, Bool, true, List, pos, sym, refl, ap, ◌∙◌, subst, mul_assoc, mul_comm, add-mul, mul-add, arith}
 use borrow.Author.Differences.{up, down}
-use Rattle.sets.specs.Bits.{row, row_bytes}
 use Rattle.sets.specs.Matroid.{Set, size, weight, both, outside, none, with, Matroid}
 use Rattle.sets.proofs.FiniteSets.{size_same, size_none}
 use Rattle.sets.proofs.MatroidLaws.{allowed_same}
 use Rattle.sets.proofs.Weights.{weight_none, weight_same}
-use Rattle.matroid.specs.Optimal.{Dual, SignedSplit}
+use Rattle.matroid.specs.Optimal.{Dual}
 use Rattle.matroid.proofs.Gains.{gains_never_rise}
 use Rattle.matroid.proofs.Optimality.{largest, heaviest_signed, signed_is_split}
 use Rattle.weighted.specs.Choice.{largest_set, dual_set, sized_set, first_part, second_part, weight_of_size, round_calls, Sized, Chosen}

@@ -1,11 +1,10 @@
 -- A heaviest set has a weight splitting, and a set is a largest one where and only where there is no augmenting path.
-use Rattle.std.proofs.Common.{◌≡◌, ℕ, zero, suc, ◌+◌, ◌-◌, ◌*◌, ◌<◌, ◌≤◌, Bool, true, false, not, ◌&&◌, sym, refl, ap, ◌∙◌, arith}
-use Rattle.sets.specs.Matroid.{Set, size, weight, without, with, Matroid}
+use Rattle.std.proofs.Common.{◌≡◌, ℕ, ◌+◌, ◌*◌, ◌≤◌, Bool, true, false, not, ◌&&◌, sym, refl, ap, arith}
+use Rattle.sets.specs.Matroid.{Set, size, weight, with, Matroid}
 use Rattle.matroid.specs.Optimal.{Split}
 use Rattle.matroid.proofs.OneMatroid.{heaviest_by_one, as_good_as_best}
 use Rattle.matroid.proofs.Optimality.{largest, split_sum}
-use Rattle.exchange.specs.Round.{top, State, lost, toggled}
-use Rattle.exchange.specs.Paths.{Augmenting}
+use Rattle.exchange.specs.Round.{State, toggled}
 use Rattle.exchange.proofs.DualSets.{dual_by_no_path}
 use Rattle.exchange.proofs.LeadingExists.{leading_exists}
 use Rattle.exchange.proofs.LabelPaths.{path_reached}

@@ -1,5 +1,5 @@
 -- The lengths of the lent memory are small numbers.
-use Rattle.std.proofs.Common.{◌≡◌, ℕ, ◌+◌, ◌*◌, ◌/◌, ◌<◌, ◌≤◌, max, Bool, true, false, cond, ltb, List, length, get_or, Ok, Err, Result, sym, ap, ◌∙◌, mul-le-mul, arith, le-ltb}
+use Rattle.std.proofs.Common.{◌≡◌, ℕ, ◌+◌, ◌*◌, ◌<◌, ◌≤◌, Bool, false, cond, ltb, List, length, get_or, Ok, Err, Result, ap, ◌∙◌, mul-le-mul, arith, le-ltb}
 use Rattle.sets.specs.Bits.{marked, word_row, row_bytes, row_words}
 use Rattle.sets.specs.declared.refusal.Refusal.{Refusal}
 use Rattle.sets.specs.declared.refusal.Refusal.TheVariants.{Short}

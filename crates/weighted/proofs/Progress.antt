@@ -1,8 +1,8 @@
 -- From round to round: the state of the set at hand, and the sets and numbers written so far.
-use Rattle.std.proofs.Common.{◌≡◌, ℕ, zero, suc, ◌+◌, ◌-◌, ◌*◌, ◌/◌, ◌<◌, ◌≤◌, min, Bool, true, false, not, ◌&&◌, ◌||◌, eqb, ltb, ◌⊎◌, List, get_or, ℤ, pos, ◌+ℤ◌, ◌-ℤ◌, ◌≤ℤ◌, sym, refl, ap, ◌∙◌, subst, inl, inr, ⊎_elim, add-zero, arith, w64, to_z}
-use Rattle.sets.specs.Bits.{member, row, row_bytes, SameBut}
-use Rattle.sets.specs.Matroid.{Set, size, none, with, without, Matroid}
-use Rattle.sets.proofs.FiniteSets.{size_same, size_none}
+use Rattle.std.proofs.Common.{◌≡◌, ℕ, suc, ◌+◌, ◌*◌, ◌/◌, ◌<◌, ◌≤◌, Bool, true, false, List, get_or, pos, ◌-ℤ◌, sym, ap, ◌∙◌, subst, inl, inr, ⊎_elim, add-zero, arith, w64, to_z}
+use Rattle.sets.specs.Bits.{row, row_bytes, SameBut}
+use Rattle.sets.specs.Matroid.{Set, size, none, Matroid}
+use Rattle.sets.proofs.FiniteSets.{size_same}
 use Rattle.sets.proofs.MatroidLaws.{allowed_same}
 use Rattle.sets.proofs.Places.{rows_apart}
 use Rattle.sets.proofs.Stretches.{members_outside}

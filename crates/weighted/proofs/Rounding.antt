@@ -1,15 +1,14 @@
 -- What the loop over the rounds keeps: calls that fit and add up, memory behind what is written as it was.
-use Rattle.std.proofs.Common.{◌≡◌, ℕ, zero, suc, ◌+◌, ◌-◌, ◌*◌, ◌<◌, ◌≤◌, Bool, true, false, ◌⊎◌, List, get_or, Some, None, Option, sym, refl, ap, ◌∙◌, subst, inl, inr, ⊎_elim, mul-le-mul_right, add-mul, mul-le-mul, one-mul, add-one, arith, MatchOption}
+use Rattle.std.proofs.Common.{◌≡◌, ℕ, suc, ◌+◌, ◌-◌, ◌*◌, ◌<◌, ◌≤◌, Bool, false, List, get_or, None, Option, sym, refl, ap, ◌∙◌, subst, inr, mul-le-mul_right, add-mul, mul-le-mul, one-mul, add-one, arith, MatchOption}
 use Rattle.sets.specs.Bits.{row_bytes, SameBut}
 use Rattle.sets.specs.Matroid.{Set, size, none, Matroid}
 use Rattle.sets.proofs.FiniteSets.{size_same, size_none, size_bound}
 use Rattle.sets.proofs.Stretches.{members_outside}
 use Rattle.exchange.specs.Round.{top, Closed}
 use Rattle.exchange.proofs.DualSets.{dual_by_closed}
-use Rattle.matroid.specs.Optimal.{Dual}
 use Rattle.weighted.specs.Choice.{round_calls, all_calls, largest_set, dual_set, sized_set, first_part, second_part, Chosen}
 use Rattle.weighted.specs.Next.{Added}
-use Rattle.weighted.proofs.Progress.{Kept, Progress, state_none, kept_left}
+use Rattle.weighted.proofs.Progress.{Kept, Progress, state_none}
 use Rattle.weighted.proofs.Chosen.{chosen}
 use Rattle.weighted.proofs.Written.{signed_along}
 

@@ -1,5 +1,5 @@
 -- One round from the labels that were found: the set with the path changed and the raised potentials are a state.
-use Rattle.std.proofs.Common.{◌≡◌, ℕ, suc, ◌+◌, ◌-◌, ◌*◌, ◌<◌, ◌≤◌, Bool, true, false, Some, None, Option, sym, refl, ap, ◌∙◌, subst, mul-le-mul_right, arith, MatchOption}
+use Rattle.std.proofs.Common.{◌≡◌, ℕ, ◌+◌, ◌-◌, ◌*◌, ◌<◌, ◌≤◌, Bool, Some, Option, sym, ap, ◌∙◌, subst, mul-le-mul_right, arith, MatchOption}
 use Rattle.sets.specs.Matroid.{Set, size, Matroid}
 use Rattle.sets.proofs.FiniteSets.{size_same, size_bound}
 use Rattle.exchange.specs.Round.{top, State, Labels, End, lost, toggled}

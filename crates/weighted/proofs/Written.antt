@@ -1,6 +1,6 @@
 -- What is written of a round's state: a set and numbers that agree below n with those of the state show the same.
-use Rattle.std.proofs.Common.{◌≡◌, ℕ, zero, suc, ◌+◌, ◌-◌, ◌*◌, ◌<◌, ◌≤◌, Bool, true, false, not, ◌&&◌, ◌||◌, eqb, ltb, ◌⊎◌, List, ℤ, pos, ◌+ℤ◌, ◌-ℤ◌, ◌≤ℤ◌, sym, refl, ap, ◌∙◌, inl, inr, ⊎_elim, arith, lt-ltb}
-use Rattle.sets.specs.Matroid.{Set, with, without, Matroid}
+use Rattle.std.proofs.Common.{◌≡◌, ℕ, ◌+◌, ◌*◌, ◌<◌, ◌≤◌, Bool, true, ◌&&◌, ltb, List, ℤ, ◌+ℤ◌, ◌≤ℤ◌, sym, ap, ◌∙◌, inl, inr, ⊎_elim, arith, lt-ltb}
+use Rattle.sets.specs.Matroid.{Set, Matroid}
 use Rattle.sets.specs.Bits.{marked, row, word_row, row_bytes, SameBut}
 use Rattle.sets.proofs.MatroidLaws.{allowed_same}
 use Rattle.sets.proofs.Stretches.{members_outside}

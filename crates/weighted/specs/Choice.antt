@@ -1,6 +1,6 @@
 -- A choice for every size: where it is written in the lent memory, and what it shows. Assumes nothing: these are definitions.
 -- n is the number of offers, f and g the tests of the two rules, w the weights.
-use Rattle.std.specs.Prelude.{◌≡◌, ℕ, zero, suc, ◌+◌, ◌-◌, ◌*◌, ◌<◌, ◌≤◌, Bool, true, cond, List, length, ℤ, Ok, Err, Result, nat_lt, slice_index}
+use Rattle.std.specs.Prelude.{◌≡◌, ℕ, zero, suc, ◌+◌, ◌-◌, ◌*◌, ◌<◌, ◌≤◌, Bool, true, cond, List, ℤ, Ok, Err, Result, nat_lt, slice_index}
 use Rattle.std.specs.Int.{w64}
 use Rattle.std.proofs.Common.{to_z}
 use Rattle.sets.specs.declared.refusal.Refusal.{Refusal}

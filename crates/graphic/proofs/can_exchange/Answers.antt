@@ -1,5 +1,5 @@
 -- Labels that differ answer at once; else the rows do.
-use Rattle.std.proofs.Common.{◌≡◌, ℕ, Bool, true, false, not, ◌||◌, eqb, arith}
+use Rattle.std.proofs.Common.{◌≡◌, ℕ, Bool, not, ◌||◌, eqb, arith}
 use Rattle.sets.specs.Bits.{marked}
 use Rattle.graphic.proofs.Kept.{exchange_answer}
 use Rattle.graphic.proofs.can_exchange.Goals as goal

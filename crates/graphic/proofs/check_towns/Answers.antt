@@ -1,5 +1,5 @@
 -- Each turn reads one town; what is left then gives the answer.
-use Rattle.std.proofs.Common.{◌≡◌, ◌+◌, ◌-◌, ◌*◌, ◌≤◌, true, false, ltb, leb, length, sym, ◌∙◌, arith}
+use Rattle.std.proofs.Common.{◌≡◌, ◌+◌, ◌*◌, true, false, ltb, leb, length, sym, ◌∙◌, arith}
 use Rattle.std.proofs.lemmas.Bool.{lt-ltb, le-ltb, le-leb, lt-leb}
 use Rattle.sets.specs.Bits.{le2}
 use Rattle.graphic.proofs.Reading.{towns_step}

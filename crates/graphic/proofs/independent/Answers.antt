@@ -1,5 +1,5 @@
 -- The state is that of the links so far; a link that closes a ring stops the set.
-use Rattle.std.proofs.Common.{◌≡◌, ◌+◌, true, false, sym, ap, ◌∙◌, zero-add, arith}
+use Rattle.std.proofs.Common.{◌≡◌, sym, ◌∙◌, zero-add, arith}
 use Rattle.std.proofs.lemmas.Bool.{false≢true}
 use Rattle.sets.specs.Bits.{marked}
 use Rattle.graphic.proofs.Growing.{front, front_new, ready_none, front_none, front_taken, front_passed, front_all, stops}

@@ -1,5 +1,5 @@
 -- One row and one label are written; the others lie elsewhere.
-use Rattle.std.proofs.Common.{◌≡◌, ℕ, suc, ◌+◌, ◌*◌, ◌<◌, ◌≤◌, length, sym, ap, ◌∙◌, inl, inr, arith}
+use Rattle.std.proofs.Common.{suc, ◌+◌, ◌*◌, ◌<◌, ◌≤◌, length, ap, ◌∙◌, inl, arith}
 use Rattle.std.proofs.lemmas.Nat.{mul-le}
 use Rattle.sets.specs.Bits.{row_words, word_row, xor}
 use Rattle.graphic.specs.Links.{kept_length}

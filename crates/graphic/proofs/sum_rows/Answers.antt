@@ -1,6 +1,6 @@
 -- Four writes to the working row; all else stays.
-use Rattle.std.proofs.Common.{◌≡◌, ℕ, suc, ◌+◌, ◌*◌, ◌<◌, ◌≤◌, length, ap, ◌∙◌, inl, inr, arith}
-use Rattle.sets.specs.Bits.{row_words, word_row, xor}
+use Rattle.std.proofs.Common.{◌≤◌, length, ap, ◌∙◌, inr, arith}
+use Rattle.sets.specs.Bits.{word_row, xor}
 use Rattle.graphic.specs.Links.{kept_length}
 use Rattle.graphic.proofs.Rows.{place_fits, labels_beside, rows_beside, summed}
 use Rattle.graphic.proofs.sum_rows.Goals as goal

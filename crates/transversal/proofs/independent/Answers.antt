@@ -1,4 +1,4 @@
-use Rattle.std.proofs.Common.{ℕ, sym, refl, ◌∙◌, arith}
+use Rattle.std.proofs.Common.{ℕ, sym, arith}
 use Rattle.std.proofs.lemmas.List.{get_or-replicate}
 use Rattle.sets.specs.Bits.{marked}
 use Rattle.transversal.specs.Pairs.{at}

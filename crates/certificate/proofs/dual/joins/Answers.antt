@@ -1,4 +1,4 @@
-use Rattle.std.proofs.Common.{◌≡◌, ℕ, sym, ap, ◌∙◌}
+use Rattle.std.proofs.Common.{ℕ, sym, ap, ◌∙◌}
 use Rattle.sets.specs.Bits.{row, marked}
 use Rattle.sets.specs.Matroid.{both, outside}
 use Rattle.matroid.proofs.RuleLaws.{rule_matroid}

@@ -1,6 +1,6 @@
-use Rattle.std.proofs.Common.{◌≡◌, ℕ, ◌+◌, ◌*◌, ◌<◌, List, sym, ap, ◌∙◌, subst, arith}
-use Rattle.sets.specs.Bits.{row, marked, row_bytes}
-use Rattle.certificate.specs.Layout.{row_at, largest_set, dual_set}
+use Rattle.std.proofs.Common.{◌≡◌, ℕ, ◌+◌, List, sym, ap, ◌∙◌, subst, arith}
+use Rattle.sets.specs.Bits.{row, marked}
+use Rattle.certificate.specs.Layout.{largest_set, dual_set}
 use Rattle.certificate.proofs.Rows.{row_apart}
 use Rattle.certificate.proofs.SetFaults.{loaded_offer}
 use Rattle.certificate.proofs.Sides.{Sided, side_removed, side_kept, differ, agree}

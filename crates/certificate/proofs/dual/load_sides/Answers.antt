@@ -1,11 +1,9 @@
-use Rattle.std.proofs.Common.{◌≡◌, true, not, sym, ◌∙◌}
+use Rattle.std.proofs.Common.{not, sym, ◌∙◌}
 use Rattle.sets.specs.Bits.{marked}
-use Rattle.sets.specs.Matroid.{both, outside}
 use Rattle.sets.proofs.MatroidLaws.{allowed_within}
 use Rattle.matroid.proofs.RuleLaws.{rule_matroid}
 use Rattle.std.proofs.lemmas.Bool.{and_parts}
 use Rattle.certificate.specs.Layout.{largest_set, dual_set}
-use Rattle.certificate.specs.Validity.{by_first, by_second}
 use Rattle.certificate.proofs.dual.load_sides.Goals as goal
 
 pub returns : goal.returns

@@ -1,9 +1,9 @@
-use Rattle.std.proofs.Common.{◌≡◌, ℕ, ◌+◌, ◌<◌, ◌≤◌, min, length, sym, ap, ◌∙◌, subst, arith}
+use Rattle.std.proofs.Common.{◌≡◌, ℕ, ◌+◌, ◌<◌, min, length, sym, ap, ◌∙◌, subst, arith}
 use Rattle.std.proofs.lemmas.Result.{err_from_is_err_and}
 use Rattle.sets.specs.declared.refusal.Refusal.TheVariants.{Length}
 use Rattle.sets.specs.declared.refusal.Source.TheVariants.{Certificate}
 use Rattle.certificate.specs.Faults.{ByteFault, Earliest}
-use Rattle.certificate.specs.Layout.{row_at, count, needed, Clean}
+use Rattle.certificate.specs.Layout.{row_at, count, needed}
 use Rattle.certificate.proofs.Bytes.{first_row_fault, first_length_fault, no_byte_fault}
 use Rattle.certificate.proofs.layout.check_layout.Goals as goal
 

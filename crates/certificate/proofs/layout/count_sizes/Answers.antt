@@ -1,8 +1,8 @@
-use Rattle.std.proofs.Common.{◌≡◌, ◌+◌, ◌≤◌, length, ap, ◌∙◌, arith}
+use Rattle.std.proofs.Common.{◌+◌, ◌≤◌, length, ap, ◌∙◌, arith}
 use Rattle.sets.specs.Bits.{row, row_bytes}
 use Rattle.sets.specs.Matroid.{size}
 use Rattle.sets.proofs.FiniteSets.{size_bound}
-use Rattle.certificate.specs.Layout.{row_at, largest_set, Clean}
+use Rattle.certificate.specs.Layout.{row_at, largest_set}
 use Rattle.certificate.proofs.layout.count_sizes.Goals as goal
 
 pub count-requires : goal.count-requires

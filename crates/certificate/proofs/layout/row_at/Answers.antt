@@ -1,5 +1,4 @@
 use Rattle.std.proofs.Common.{◌≡◌, ◌-◌, ◌*◌, ap, arith}
-use Rattle.certificate.specs.Layout.{row_at}
 use Rattle.certificate.proofs.Rows.{row_at_small}
 use Rattle.certificate.proofs.layout.row_at.Goals as goal
 

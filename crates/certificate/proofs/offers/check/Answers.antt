@@ -1,4 +1,4 @@
-use Rattle.std.proofs.Common.{◌≡◌, length, sym, ◌∙◌, inl, inr}
+use Rattle.std.proofs.Common.{length, sym, inl, inr}
 use Rattle.std.proofs.lemmas.Result.{err_from_is_err_and, MatchResult-weaker}
 use Rattle.certificate.proofs.Accepting.{usable, proven, refused_file, not_certified}
 use Rattle.certificate.proofs.offers.check.Goals as goal

@@ -1,4 +1,4 @@
-use Rattle.std.proofs.Common.{◌≡◌, ℕ, ◌+◌, ◌*◌, ◌<◌, ◌≤◌, length, Ok, Err, refl, arith}
+use Rattle.std.proofs.Common.{◌<◌, ◌≤◌, length, Err, refl, arith}
 use Rattle.std.proofs.lemmas.Result.{err_from_is_err_and}
 use Rattle.sets.specs.declared.refusal.Refusal.TheVariants.{Short}
 use Rattle.sets.specs.declared.refusal.Lent.TheVariants.{Work}

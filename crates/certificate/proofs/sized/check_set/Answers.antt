@@ -1,5 +1,5 @@
-use Rattle.std.proofs.Common.{◌≡◌, sym, ◌∙◌}
-use Rattle.sets.specs.Bits.{row, marked}
+use Rattle.std.proofs.Common.{sym, ◌∙◌}
+use Rattle.sets.specs.Bits.{row}
 use Rattle.matroid.proofs.RuleLaws.{rule_matroid}
 use Rattle.certificate.specs.Validity.{by_first, by_second}
 use Rattle.certificate.proofs.SetFaults.{loaded_offer, size_loaded, allowed_loaded, by_size, by_first_rule, by_second_rule, no_set_fault}

@@ -1,10 +1,9 @@
-use Rattle.std.proofs.Common.{◌≡◌, ◌+◌, ◌*◌, ◌≤◌, length, sym, ◌∙◌, inl, inr, arith}
+use Rattle.std.proofs.Common.{inr, arith}
 use Rattle.std.proofs.lemmas.Result.{err_from_is_err_and, MatchResult-weaker}
-use Rattle.sets.specs.Bits.{marked, row_bytes}
-use Rattle.sets.proofs.FiniteSets.{size_bound}
+use Rattle.sets.specs.Bits.{marked}
 use Rattle.matroid.specs.Problem.{weight_of}
 use Rattle.matroid.proofs.RuleLaws.{rule_matroid}
-use Rattle.certificate.specs.Layout.{row_at, count, largest_set}
+use Rattle.certificate.specs.Layout.{count}
 use Rattle.certificate.specs.Validity.{by_first, by_second}
 use Rattle.certificate.proofs.Rows.{block_end}
 use Rattle.certificate.proofs.SizeFaults.{right_set, wrong_set, right_numbers, wrong_numbers}

@@ -1,8 +1,8 @@
 use Rattle.certificate.proofs.sized.check_sizes.Goals as goal
-use Rattle.std.proofs.Common.{◌≡◌, ℕ, ◌+◌, ◌<◌, ◌≤◌, ◌⊎◌, subst, inl, inr, ⊎_elim, arith, below_more}
+use Rattle.std.proofs.Common.{ℕ, ◌≤◌, arith, below_more}
 use Rattle.std.proofs.lemmas.Result.{err_from_is_err_and}
 use Rattle.matroid.specs.Problem.{weight_of}
-use Rattle.certificate.specs.Faults.{Right, AllRight}
+use Rattle.certificate.specs.Faults.{Right}
 use Rattle.certificate.specs.Validity.{by_first, by_second}
 
 pub loop-k-init : goal.loop-k-init

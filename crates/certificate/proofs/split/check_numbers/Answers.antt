@@ -1,4 +1,4 @@
-use Rattle.std.proofs.Common.{ℕ, ◌+◌, ◌<◌, arith, below_more}
+use Rattle.std.proofs.Common.{ℕ, ◌+◌, arith, below_more}
 use Rattle.std.proofs.lemmas.Bool.Decides.{not_from_Decides}
 use Rattle.sets.specs.Bits.{marked}
 use Rattle.sets.specs.declared.refusal.Refusal.TheVariants.{Split}

@@ -1,7 +1,6 @@
-use Rattle.std.proofs.Common.{◌≡◌, ℕ, ◌+◌, ◌*◌, true, false, ℤ, pos, ◌+ℤ◌, Decides, sym, ap, ◌∙◌, subst, arith}
+use Rattle.std.proofs.Common.{◌≡◌, ℕ, ◌+◌, ◌*◌, pos, ◌+ℤ◌, Decides, sym, ap, ◌∙◌, subst, arith}
 use Rattle.std.proofs.lemmas.Bool.Decides.{not_from_Decides}
 use Rattle.sets.specs.Bits.{marked}
-use Rattle.sets.specs.Matroid.{Set}
 use Rattle.matroid.specs.Problem.{weight_of}
 use Rattle.matroid.specs.Rules.{allows}
 use Rattle.matroid.proofs.RuleLaws.{rule_matroid}

@@ -1,4 +1,4 @@
-use Rattle.std.proofs.Common.{◌≡◌, ℕ, ◌+◌, ◌*◌, ◌<◌, true, false, ℤ, ◌<ℤ◌, sym, refl, ap, ◌∙◌, subst, arith, w64, SFits, rules, below_more}
+use Rattle.std.proofs.Common.{◌≡◌, ℕ, ◌+◌, ◌*◌, true, false, ℤ, ◌<ℤ◌, sym, refl, ap, ◌∙◌, arith, w64, SFits, rules, below_more}
 use lib.Signed.{lt_z}
 use Rattle.std.proofs.lemmas.Int.{to_z-of_z}
 use Rattle.certificate.proofs.Judging.{less, not_less}

@@ -1,6 +1,5 @@
-use Rattle.std.proofs.Common.{◌≡◌, sym, refl, ap, ◌∙◌, arith}
+use Rattle.std.proofs.Common.{sym, ◌∙◌, arith}
 use Rattle.sets.specs.Bits.{marked}
-use Rattle.exchange.specs.Graph.{table}
 use Rattle.exchange.proofs.Counting.{size_le}
 use Rattle.exchange.proofs.Growing.{copied_row}
 use Rattle.exchange.proofs.dual.dual_set.Goals as goal

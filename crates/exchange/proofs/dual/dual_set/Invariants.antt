@@ -1,4 +1,4 @@
-use Rattle.std.proofs.Common.{◌≡◌, ℕ, ◌-◌, ◌<◌, true}
+use Rattle.std.proofs.Common.{◌-◌}
 use Rattle.sets.specs.Bits.{marked}
 use Rattle.sets.specs.Matroid.{Set, size, Within}
 use Rattle.exchange.specs.Graph.{table}

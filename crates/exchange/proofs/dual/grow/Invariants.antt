@@ -1,4 +1,4 @@
-use Rattle.std.proofs.Common.{◌≡◌, ℕ, ◌<◌, true, false, ◌&&◌}
+use Rattle.std.proofs.Common.{◌≡◌, ℕ, ◌<◌, true}
 use Rattle.sets.specs.Bits.{marked}
 use Rattle.exchange.specs.Graph.{table}
 use Rattle.exchange.proofs.Growing.{Grown}

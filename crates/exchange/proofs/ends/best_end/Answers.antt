@@ -1,9 +1,9 @@
-use Rattle.std.proofs.Common.{◌≡◌, ℕ, ◌+◌, ◌<◌, Bool, true, false, not, Some, None, Option, sym, ◌∙◌, subst, MatchOption}
-use Rattle.std.proofs.lemmas.Bool.{both_ways, not-true, not-false, and_from, and_left, and_right}
+use Rattle.std.proofs.Common.{ℕ, ◌+◌, Option, sym, ◌∙◌, subst}
+use Rattle.std.proofs.lemmas.Bool.{and_from, and_left, and_right}
 use Rattle.sets.specs.Bits.{marked}
-use Rattle.sets.specs.Matroid.{both, Set}
-use Rattle.exchange.specs.Round.{lost, Before}
-use Rattle.exchange.specs.Graph.{at, Least}
+use Rattle.sets.specs.Matroid.{both}
+use Rattle.exchange.specs.Round.{lost}
+use Rattle.exchange.specs.Graph.{at}
 use Rattle.exchange.proofs.Leasts.{SoFar, passed, stays, moves}
 use Rattle.exchange.proofs.ends.best_end.Goals as goal
 use Rattle.exchange.proofs.ends.best_end.Goals.{then-holds+then-holds-2+then-better_end, else-holds, else-holds-via-then-holds+then-holds-2+else-better_end, else-holds-via-then-holds+else-holds-2, else-holds-via-else-holds}

@@ -1,4 +1,4 @@
-use Rattle.std.proofs.Common.{◌≡◌, ℕ, ◌<◌, true, false, MatchOption}
+use Rattle.std.proofs.Common.{◌≡◌, ℕ, ◌<◌, false, MatchOption}
 use Rattle.sets.specs.Bits.{marked}
 use Rattle.sets.specs.Matroid.{both}
 use Rattle.exchange.specs.Round.{lost}

@@ -1,4 +1,4 @@
-use Rattle.std.proofs.Common.{◌≡◌, ℕ, ◌+◌, ◌*◌, ◌≤◌, true, false, sym, ap, ◌∙◌, subst, arith, rules}
+use Rattle.std.proofs.Common.{ℕ, sym, subst, arith, rules}
 use Rattle.sets.specs.Bits.{marked}
 use Rattle.sets.specs.Matroid.{size}
 use Rattle.exchange.specs.Graph.{at, cost, table, SmallLabels}

@@ -1,4 +1,4 @@
-use Rattle.std.proofs.Common.{ℕ, ◌-◌, ◌<◌}
+use Rattle.std.proofs.Common.{◌-◌}
 use Rattle.sets.specs.Bits.{marked}
 use Rattle.sets.specs.Matroid.{size}
 use Rattle.exchange.specs.Graph.{at, cost, table, SmallLabels}

@@ -1,4 +1,4 @@
-use Rattle.std.proofs.Common.{◌≡◌, ℕ, ◌+◌, Option, sym, subst, arith}
+use Rattle.std.proofs.Common.{ℕ, ◌+◌, Option, sym, subst, arith}
 use Rattle.sets.specs.Bits.{marked}
 use Rattle.sets.specs.Matroid.{outside}
 use Rattle.exchange.specs.Graph.{at}

@@ -1,4 +1,4 @@
-use Rattle.std.proofs.Common.{◌≡◌, ◌+◌, true, false, not, ◌&&◌, sym, refl, ◌∙◌, arith}
+use Rattle.std.proofs.Common.{◌+◌, arith}
 use Rattle.sets.specs.Bits.{marked}
 use Rattle.exchange.specs.Graph.{at, cost, table}
 use Rattle.exchange.proofs.Relaxing.{partly_none, partly_all, partly_step, partly_jump, cost_by_side}

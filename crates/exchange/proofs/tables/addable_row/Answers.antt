@@ -1,4 +1,4 @@
-use Rattle.std.proofs.Common.{◌≡◌, true, false, not, sym, ap, ◌∙◌}
+use Rattle.std.proofs.Common.{◌≡◌, not, sym, ap, ◌∙◌}
 use Rattle.matroid.specs.Rules.{allows}
 use Rattle.sets.specs.Bits.{marked}
 use Rattle.exchange.specs.Graph.{addable}

@@ -1,4 +1,4 @@
-use Rattle.std.proofs.Common.{◌≡◌, ℕ, ◌+◌, ◌-◌, ◌<◌, ◌≤◌, Bool, true, false, List, sym, ap, ◌∙◌, subst, arith}
+use Rattle.std.proofs.Common.{◌≡◌, ℕ, ◌+◌, ◌-◌, ◌<◌, ◌≤◌, Bool, List, sym, ap, ◌∙◌, arith}
 use Rattle.matroid.specs.Rules.{allows}
 use Rattle.sets.specs.Bits.{marked}
 use Rattle.sets.specs.Matroid.{size, pick, Set}

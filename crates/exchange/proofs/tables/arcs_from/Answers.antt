@@ -1,7 +1,7 @@
-use Rattle.std.proofs.Common.{◌≡◌, ℕ, ◌+◌, ◌<◌, Bool, true, false, not, ◌&&◌, sym, refl, ap, ◌∙◌, arith}
+use Rattle.std.proofs.Common.{◌≡◌, ◌+◌, not, sym, ap, ◌∙◌, arith}
 use Rattle.matroid.specs.Rules.{allows}
 use Rattle.sets.specs.Bits.{marked}
-use Rattle.exchange.specs.Graph.{table, arc}
+use Rattle.exchange.specs.Graph.{arc}
 use Rattle.exchange.proofs.Arcs.{arc_none, others, others_more, others_same, others_le, sides_differ, sides_agree}
 use Rattle.exchange.proofs.Cells.{row_written, rows_kept}
 use Rattle.exchange.proofs.tables.arcs_from.Goals as goal

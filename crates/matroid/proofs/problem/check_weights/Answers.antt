@@ -1,5 +1,5 @@
 -- Each turn tests one weight.
-use Rattle.std.proofs.Common.{sym, ◌∙◌, arith}
+use Rattle.std.proofs.Common.{sym, ◌∙◌}
 use Rattle.std.proofs.lemmas.Result.{err_from_is_err_and}
 use Rattle.matroid.proofs.WeightReading.{weights_stop, weights_more}
 use Rattle.matroid.proofs.problem.check_weights.Goals as goal

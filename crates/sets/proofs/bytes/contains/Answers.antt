@@ -1,5 +1,5 @@
 -- The byte and the bit of i in the row are those of 8 * at + i.
-use Rattle.std.proofs.Common.{◌≡◌, ◌+◌, ◌*◌, ◌/◌, ◌%◌, ◌^◌, ap, arith}
+use Rattle.std.proofs.Common.{◌≡◌, ◌+◌, ◌*◌, ◌/◌, ◌%◌, arith}
 use Rattle.sets.specs.Bits.{member}
 use Rattle.sets.proofs.bytes.contains.Goals as goal
 

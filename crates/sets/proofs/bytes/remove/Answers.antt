@@ -1,5 +1,5 @@
 -- The write changes one bit of one byte.
-use Rattle.std.proofs.Common.{◌≡◌, ◌+◌, ◌*◌, ◌/◌, ◌%◌, arith}
+use Rattle.std.proofs.Common.{◌+◌, ◌*◌, ◌/◌, ◌%◌, arith}
 use Rattle.sets.specs.Bits.{member}
 use Rattle.sets.proofs.Marks.{remove_at, set_same_but}
 use Rattle.sets.proofs.bytes.remove.Goals as goal

@@ -1,5 +1,5 @@
 -- The word and the bit of i in the row are those of 32 * at + i.
-use Rattle.std.proofs.Common.{◌≡◌, ◌+◌, ◌*◌, ◌/◌, ◌%◌, ◌^◌, ap, arith}
+use Rattle.std.proofs.Common.{◌≡◌, ◌+◌, ◌*◌, ◌/◌, ◌%◌, arith}
 use Rattle.sets.specs.Bits.{marked}
 use Rattle.sets.proofs.words.contains.Goals as goal
 

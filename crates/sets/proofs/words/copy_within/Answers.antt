@@ -1,5 +1,5 @@
 -- Each turn writes one word, which is the other row's.
-use Rattle.std.proofs.Common.{◌≡◌, sym, refl, ◌∙◌, arith}
+use Rattle.std.proofs.Common.{◌≡◌, sym, ◌∙◌, arith}
 use Rattle.sets.proofs.Stretches.{rewritten_none, rewritten_more, rewritten_all, rewritten_marks, rewritten_kept, word_row_is}
 use Rattle.sets.proofs.words.copy_within.Goals as goal
 

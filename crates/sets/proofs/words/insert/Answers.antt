@@ -1,5 +1,5 @@
 -- The write changes one bit of one word.
-use Rattle.std.proofs.Common.{◌≡◌, ◌+◌, ◌*◌, ◌/◌, ◌%◌, arith}
+use Rattle.std.proofs.Common.{◌+◌, ◌*◌, ◌/◌, ◌%◌, arith}
 use Rattle.sets.specs.Bits.{marked}
 use Rattle.sets.proofs.Marks.{insert_at, set_same_but}
 use Rattle.sets.proofs.words.insert.Goals as goal

@@ -1,6 +1,5 @@
 -- Each turn writes one word; the words of row `from` stay as they were.
-use Rattle.std.proofs.Common.{◌≡◌, ℕ, ◌+◌, ◌/◌, ◌%◌, get_or, sym, ap, ◌∙◌, arith}
-use lib.Bits.{bit_or}
+use Rattle.std.proofs.Common.{◌≡◌, ◌+◌, ◌/◌, ◌%◌, get_or, arith}
 use Rattle.sets.proofs.Stretches.{rewritten_none, rewritten_more, rewritten_all, rewritten_marks, rewritten_kept, rewritten_next, word_row_is}
 use Rattle.sets.proofs.Masks.{bit_or_lem}
 use Rattle.sets.proofs.words.or_row.Goals as goal

@@ -1,4 +1,4 @@
-use Rattle.std.proofs.Common.{◌+◌, length, sym, ◌∙◌, arith}
+use Rattle.std.proofs.Common.{◌+◌, length, arith}
 use Rattle.transversal.proofs.RowFacts.{row_in}
 use Rattle.transversal.proofs.matching.free_for.Goals as goal
 

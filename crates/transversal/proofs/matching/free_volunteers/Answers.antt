@@ -1,5 +1,5 @@
 use Rattle.std.proofs.Common.{arith}
-use Rattle.transversal.specs.Pairs.{at, Queued}
+use Rattle.transversal.specs.Pairs.{at}
 use Rattle.transversal.proofs.Pairing.{queued_write, queued_past}
 use Rattle.transversal.proofs.matching.free_volunteers.Goals as goal
 use Rattle.transversal.proofs.matching.free_volunteers.Goals.{then-owner-v, else-owner-v}

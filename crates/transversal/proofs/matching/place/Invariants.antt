@@ -1,4 +1,3 @@
-use Rattle.std.proofs.Common.{◌≡◌, ℕ, ◌≤◌, length}
 use Rattle.transversal.specs.Pairs.{at, can_by, matched}
 use Rattle.transversal.proofs.Pairing.{Shifting}
 use Rattle.transversal.proofs.matching.place.Given as goal

@@ -1,6 +1,6 @@
-use Rattle.std.proofs.Common.{◌<◌, length, ap, ◌∙◌, arith}
+use Rattle.std.proofs.Common.{length, ap, ◌∙◌, arith}
 use Rattle.sets.specs.Bits.{word_row}
-use Rattle.transversal.specs.Pairs.{at, can_by, Leads}
+use Rattle.transversal.specs.Pairs.{at}
 use Rattle.transversal.proofs.Going.{going_next, going_end}
 use Rattle.transversal.proofs.Turns.{turn_less, turn_room, turn_leads, turn_single, turn_push, turn_other, row_within}
 use Rattle.transversal.proofs.matching.reach.Goals as goal

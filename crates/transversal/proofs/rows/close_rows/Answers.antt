@@ -1,4 +1,4 @@
-use Rattle.std.proofs.Common.{sym, refl, ◌∙◌, arith}
+use Rattle.std.proofs.Common.{sym, ◌∙◌}
 use Rattle.transversal.proofs.RowFacts.{row_zero}
 use Rattle.transversal.proofs.Closing.{closing_start, closing_more, closing_skip}
 use Rattle.transversal.specs.Volunteers.{in_row}

@@ -1,4 +1,3 @@
-use Rattle.std.proofs.Common.{ℕ}
 use Rattle.transversal.specs.Volunteers.{in_row}
 use Rattle.transversal.proofs.Closing.{Closing}
 use Rattle.transversal.proofs.rows.close_rows.Given as goal

@@ -1,4 +1,4 @@
-use Rattle.std.proofs.Common.{◌+◌, ◌*◌, length, sym, refl, ◌∙◌, inl, inr, arith}
+use Rattle.std.proofs.Common.{◌+◌, length, sym, refl, ◌∙◌, inl, inr, arith}
 use Rattle.transversal.proofs.RowFacts.{row_in, rows_off, other_row}
 use Rattle.transversal.proofs.RowTurns.{through_more, through_took, through_left}
 use Rattle.transversal.proofs.rows.close_through.Goals as goal

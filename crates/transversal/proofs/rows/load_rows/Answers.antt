@@ -1,6 +1,5 @@
-use Rattle.std.proofs.Common.{◌+◌, ◌*◌, ◌≤◌, length, arith}
+use Rattle.std.proofs.Common.{◌+◌, ◌*◌, length, arith}
 use Rattle.sets.specs.Bits.{row_words, row_bytes}
-use Rattle.std.proofs.lemmas.Nat.{mul-le}
 use Rattle.transversal.proofs.RowFacts.{row_in}
 use Rattle.transversal.proofs.RowTurns.{loaded_more}
 use Rattle.transversal.proofs.rows.load_rows.Goals as goal

@@ -1,4 +1,4 @@
-use Rattle.std.proofs.Common.{◌≡◌, ℕ, ◌+◌, ◌*◌, ◌<◌, length, sym, refl, ap, ◌∙◌, arith}
+use Rattle.std.proofs.Common.{◌≡◌, ℕ, ◌+◌, ◌<◌, length, ap, ◌∙◌, arith}
 use Rattle.transversal.specs.Volunteers.{in_row}
 use Rattle.transversal.specs.Pairs.{at, can_by, start_free}
 use Rattle.transversal.proofs.RowFacts.{row_in, rows_off, other_row}

@@ -1,4 +1,4 @@
-use Rattle.std.proofs.Common.{◌≡◌, ℕ, ◌<◌, ◌≤◌}
+use Rattle.std.proofs.Common.{◌≡◌, ℕ, ◌<◌}
 use Rattle.transversal.specs.Volunteers.{in_row}
 use Rattle.transversal.specs.Pairs.{at, can_by, start_free}
 use Rattle.transversal.proofs.rows.start_free.Given as goal

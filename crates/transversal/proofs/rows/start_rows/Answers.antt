@@ -1,6 +1,6 @@
-use Rattle.std.proofs.Common.{◌+◌, ◌*◌, length, sym, refl, ◌∙◌, arith}
+use Rattle.std.proofs.Common.{◌+◌, length, arith}
 use Rattle.transversal.specs.Pairs.{at}
-use Rattle.transversal.proofs.RowFacts.{row_in, rows_off, other_row}
+use Rattle.transversal.proofs.RowFacts.{row_in, rows_off}
 use Rattle.transversal.proofs.RowTurns.{started_more, started_copy, started_empty}
 use Rattle.transversal.proofs.rows.start_rows.Goals as goal
 use Rattle.transversal.proofs.rows.start_rows.Goals.{then-v-volunteers, else-v-volunteers}

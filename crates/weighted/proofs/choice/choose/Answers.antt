@@ -1,8 +1,7 @@
-use Rattle.std.proofs.Common.{◌≡◌, ℕ, ◌+◌, ◌*◌, ◌≤◌, length, sym, ap, subst, arith, rules}
+use Rattle.std.proofs.Common.{◌≡◌, ℕ, ◌+◌, ◌*◌, ◌≤◌, length, sym, subst, arith}
 use Rattle.matroid.specs.Problem.{rules_at}
 use Rattle.matroid.proofs.FileReading.{means_well}
 use Rattle.sets.specs.Bits.{row_words}
-use Rattle.weighted.specs.Choice.{work_length}
 use Rattle.weighted.proofs.Lengths.{kept_small, begins_within, admits, work_small, choice}
 use Rattle.weighted.proofs.choice.choose.Goals as goal
 

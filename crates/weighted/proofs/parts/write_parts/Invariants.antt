@@ -1,4 +1,4 @@
-use Rattle.std.proofs.Common.{◌≡◌, ℕ, ◌+◌, ◌*◌, ◌<◌, pos, ◌-ℤ◌}
+use Rattle.std.proofs.Common.{◌≡◌, ℕ, ◌*◌, ◌<◌, pos, ◌-ℤ◌}
 use Rattle.exchange.specs.Graph.{at}
 use Rattle.sets.specs.Bits.{SameBut}
 use Rattle.weighted.specs.Choice.{first_part, second_part}

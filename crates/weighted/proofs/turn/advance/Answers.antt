@@ -1,4 +1,4 @@
-use Rattle.std.proofs.Common.{ℕ, ◌<◌, arith, rules}
+use Rattle.std.proofs.Common.{◌<◌, arith}
 use Rattle.sets.specs.Bits.{marked}
 use Rattle.exchange.specs.Graph.{at}
 use Rattle.matroid.specs.Rules.{allows}

@@ -1,12 +1,12 @@
-use Rattle.std.proofs.Common.{◌≡◌, ℕ, suc, ◌+◌, ◌*◌, ◌<◌, ◌≤◌, Bool, List, length, sym, refl, ap, ◌∙◌, subst, zero-add, arith, rules}
+use Rattle.std.proofs.Common.{◌≡◌, ℕ, suc, ◌+◌, ◌*◌, ◌<◌, ◌≤◌, List, length, refl, ap, ◌∙◌, subst, zero-add, arith, rules}
 use Rattle.sets.specs.Bits.{marked, row_bytes}
-use Rattle.sets.specs.Matroid.{Set, size, Matroid}
+use Rattle.sets.specs.Matroid.{Set, size}
 use Rattle.sets.proofs.FiniteSets.{size_bound}
 use Rattle.exchange.specs.Graph.{at}
 use Rattle.exchange.specs.Round.{top}
 use Rattle.matroid.specs.Rules.{allows}
 use Rattle.matroid.proofs.RuleLaws.{rule_matroid}
-use Rattle.weighted.specs.Choice.{round_calls, all_calls}
+use Rattle.weighted.specs.Choice.{round_calls}
 use Rattle.weighted.proofs.Progress.{Progress, progress_more}
 use Rattle.weighted.proofs.Rounding.{asked_is, calls_few, calls_fit, calls_next, numbers_rest, sets_rest, one_more, set_room, number_room, progress_none, no_end, finished, all_rest, step_up}
 use Rattle.weighted.proofs.Turning.{some_end}
