@@ -208,7 +208,7 @@ module _ (n : ℕ) (f g : Set → Bool) (w a b : ℕ → ℕ) (s : Set) (k : ℕ
       gained = along_weighs n f g s k x y best.path.route w best_distinct;
     }
 
--- Best-augments, given that many exchanges can be made at once
+-- BestAugments, given that many exchanges can be made at once
 pub best_augments : ManyExchangesByKeysAndOne → BestAugments
 best_augments many n f g w a b s k x y first second split best = augmented n f g w a b s k x y split best many first second
 

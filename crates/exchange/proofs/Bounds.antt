@@ -2,7 +2,7 @@
 use Rattle.std.proofs.Common.{◌≡◌, ℕ, ◌+◌, ◌-◌, ◌*◌, ◌<◌, ◌≤◌, Bool, true, false, sym, ap, ◌∙◌, ⊎_elim, arith}
 use Rattle.std.proofs.lemmas.Bool.{cases_Bool}
 use Rattle.sets.specs.Matroid.{pick, Set}
-use Rattle.exchange.specs.Round.{top, Before}
+use Rattle.exchange.specs.Round.{top, no_worse}
 use Rattle.exchange.specs.Graph.{cost, bettered, Changed, Priced, SmallLabels}
 use Rattle.exchange.proofs.Settling.{pick_true, pick_false, better_parts, or_false}
 
@@ -32,7 +32,7 @@ small_turn n to s w a done reached after d k back e l ahead m p h below found ea
     let which = bettered to (cost s w a) done reached d k m u in
     ⊎_elim
     (λ (b : which ≡ true).
-    let parts = better_parts (to m u) (done u) (reached u) (Before (d u) (k u) (d m + cost s w a m u) (k m + 1)) b in
+    let parts = better_parts (to m u) (done u) (reached u) (no_worse (d u) (k u) (d m + cost s w a m u) (k m + 1)) b in
     let c : e u ≡ d m + cost s w a m u = pick_true which _ _ _ b x.costs in
     let f : l u ≡ k m + 1 = pick_true which _ _ _ b x.steps in
     let o = small m below found in

@@ -2,11 +2,11 @@
 use Rattle.std.proofs.Common.{◌≡◌, ℕ, ◌+◌, ◌-◌, ◌<◌, ◌≤◌, Bool, true, false, not, ◌&&◌, ap, subst, ⊎_elim, arith}
 use Rattle.std.proofs.lemmas.Bool.{cases_lt, both_ways}
 use Rattle.sets.specs.Matroid.{pick, Set, without, with}
-use Rattle.exchange.specs.Round.{State, Before, Labels}
+use Rattle.exchange.specs.Round.{State, no_worse, Labels}
 use Rattle.exchange.specs.Graph.{arc, addable, cost, Cheapest}
 
 -- the order of labels stays where both costs grow by the same
-before_lifted : (d k e l p q : ℕ) → q ≤ p → Before d k (e + (p - q)) l ≡ true → Before (d + q) k (e + p) l ≡ true
+before_lifted : (d k e l p q : ℕ) → q ≤ p → no_worse d k (e + (p - q)) l ≡ true → no_worse (d + q) k (e + p) l ≡ true
 before_lifted d k e l p q h b = grind arith
 
 module _ (n : ℕ) (f g : Set → Bool) (w a : ℕ → ℕ) (loss : ℕ) (s : Set) (state : State n f g w a loss s) where
@@ -83,13 +83,13 @@ module _ (n : ℕ) (f g : Set → Bool) (w a : ℕ → ℕ) (loss : ℕ) (s : Se
           let p = short.step x y hx hy r (arc_out x y out held arc) in (
             p.0,
             before_lifted (d y) (k y) (d x) (k x + 1) (w y + a x) (w x + a y) (state.second_best y x hy hx held out arc)
-                (subst (λ c. Before (d y) (k y) (d x + c) (k x + 1) ≡ true) (cost_out x y out) p.1),
+                (subst (λ c. no_worse (d y) (k y) (d x + c) (k x + 1) ≡ true) (cost_out x y out) p.1),
           );
       into = λ y x hy hx held out r arc.
           let p = short.step y x hy hx r (arc_into y x held out arc) in (
             p.0,
             before_lifted (d x) (k x) (d y) (k y + 1) (a y) (a x) (state.first_best y x hy hx held out arc)
-                (subst (λ c. Before (d x) (k x) (d y + c) (k y + 1) ≡ true) (cost_into y x held) p.1),
+                (subst (λ c. no_worse (d x) (k x) (d y + c) (k y + 1) ≡ true) (cost_into y x held) p.1),
           );
       from_second = λ y h held r.
           let p = short.along y h r (inner_steps y h held r) in

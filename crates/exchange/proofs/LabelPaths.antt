@@ -3,14 +3,14 @@ use Rattle.std.proofs.Common.{◌≡◌, ℕ, zero, suc, ◌+◌, ◌-◌, ◌<�
 use Rattle.std.proofs.lemmas.Bool.{eqb-true}
 use Rattle.sets.specs.Matroid.{pick, Set, without, with}
 use Rattle.matroid.specs.Exchanges.{among}
-use Rattle.exchange.specs.Round.{top, State, Before, Labels, End, lost, toggled}
+use Rattle.exchange.specs.Round.{top, State, no_worse, Labels, End, lost, toggled}
 use Rattle.exchange.specs.Paths.{total, Augmenting, NoMore, AsMuch, BestPath, along}
 use Rattle.exchange.specs.Predecessors.{twice, comes, goes, Predecessors, LabelsBest}
 use Rattle.exchange.proofs.Along.{among_none, among_at, among_all, among_same}
 use Rattle.exchange.proofs.Chains.{twice_is, mark, Outer, Inner, half, inside, outer, first_source}
 
 -- what the order of labels says
-pub before_tells : (d k e l : ℕ) → Before d k e l ≡ true → (d ≤ e) × (d ≡ e → k ≤ l)
+pub before_tells : (d k e l : ℕ) → no_worse d k e l ≡ true → (d ≤ e) × (d ≡ e → k ≤ l)
 before_tells d k e l h = (grind arith, λ s. grind arith)
 
 module _ (n : ℕ) (f g : Set → Bool) (w a : ℕ → ℕ) (loss : ℕ) (s reached : Set) (d k back : ℕ → ℕ) (state : State n f g w a loss s)

@@ -2,7 +2,7 @@
 use Rattle.std.proofs.Common.{◌≡◌, ℕ, ◌+◌, ◌<◌, ◌≤◌, Bool, true, false, not, Some, None, Option, sym, refl, ◌∙◌, subst, ⊎_elim, arith, MatchOption}
 use Rattle.std.proofs.lemmas.Bool.{cases_eq, cases_lt, both_ways, not-true, not-false}
 use Rattle.sets.specs.Matroid.{Set}
-use Rattle.exchange.specs.Round.{Before}
+use Rattle.exchange.specs.Round.{no_worse}
 use Rattle.exchange.specs.Graph.{Least}
 use Rattle.exchange.proofs.Settling.{before_refl, before_trans, before_other}
 
@@ -19,7 +19,7 @@ pub least_first : (i : ℕ) (among : Set) (d k : ℕ → ℕ) → ((v : ℕ) →
 least_first i among d k h here = (
   omega arith,
   here,
-  extend (λ (v : ℕ). among v ≡ true → Before (d i) (k i) (d v) (k v) ≡ true) i (λ v p q. absurd (both_ways (among v) (h v p) q))
+  extend (λ (v : ℕ). among v ≡ true → no_worse (d i) (k i) (d v) (k v) ≡ true) i (λ v p q. absurd (both_ways (among v) (h v p) q))
       (λ _. before_refl i i d k refl),
 )
 
@@ -28,20 +28,20 @@ pub least_pass : (i : ℕ) (among : Set) (d k : ℕ → ℕ) (t : ℕ) → Least
 least_pass i among d k t h off = (
   omega (arith, h.0),
   h.1,
-  extend (λ (v : ℕ). among v ≡ true → Before (d t) (k t) (d v) (k v) ≡ true) i h.2 (λ q. absurd (both_ways (among i) off q)),
+  extend (λ (v : ℕ). among v ≡ true → no_worse (d t) (k t) (d v) (k v) ≡ true) i h.2 (λ q. absurd (both_ways (among i) off q)),
 )
 
 -- i is no better
-pub least_stay : (i : ℕ) (among : Set) (d k : ℕ → ℕ) (t : ℕ) → Least i among d k t → Before (d t) (k t) (d i) (k i) ≡ true → Least (i + 1) among d k t
+pub least_stay : (i : ℕ) (among : Set) (d k : ℕ → ℕ) (t : ℕ) → Least i among d k t → no_worse (d t) (k t) (d i) (k i) ≡ true → Least (i + 1) among d k t
 least_stay i among d k t h b =
-    (omega (arith, h.0), h.1, extend (λ (v : ℕ). among v ≡ true → Before (d t) (k t) (d v) (k v) ≡ true) i h.2 (λ _. b))
+    (omega (arith, h.0), h.1, extend (λ (v : ℕ). among v ≡ true → no_worse (d t) (k t) (d v) (k v) ≡ true) i h.2 (λ _. b))
 
 -- i is better
-pub least_move : (i : ℕ) (among : Set) (d k : ℕ → ℕ) (t : ℕ) → Least i among d k t → among i ≡ true → Before (d t) (k t) (d i) (k i) ≡ false → Least (i + 1) among d k i
+pub least_move : (i : ℕ) (among : Set) (d k : ℕ → ℕ) (t : ℕ) → Least i among d k t → among i ≡ true → no_worse (d t) (k t) (d i) (k i) ≡ false → Least (i + 1) among d k i
 least_move i among d k t h here b = (
   omega arith,
   here,
-  extend (λ (v : ℕ). among v ≡ true → Before (d i) (k i) (d v) (k v) ≡ true) i
+  extend (λ (v : ℕ). among v ≡ true → no_worse (d i) (k i) (d v) (k v) ≡ true) i
       (λ v p q. before_trans (d i) (k i) (d t) (k t) (d v) (k v) (before_other (d t) (k t) (d i) (k i) b) (h.2 v p q)) (λ _. before_refl i i d k refl),
 )
 
@@ -51,7 +51,7 @@ SoFar i among d k o = MatchOption o ((x : ℕ) → x < i → among x ≡ false) 
 
 -- whether i is better than the best so far
 abbrev pub Said : ℕ → (ℕ → ℕ) → (ℕ → ℕ) → Option ℕ → Bool → Type 0
-Said i d k o r = MatchOption o (r ≡ true) (λ t. r ≡ not (Before (d t) (k t) (d i) (k i)))
+Said i d k o r = MatchOption o (r ≡ true) (λ t. r ≡ not (no_worse (d t) (k t) (d i) (k i)))
 
 -- an element that is not among them changes nothing
 pub passed : (i : ℕ) (among : Set) (d k : ℕ → ℕ) (o : Option ℕ) → among i ≡ false → SoFar i among d k o → SoFar (i + 1) among d k o

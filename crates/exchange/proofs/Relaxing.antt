@@ -2,7 +2,7 @@
 use Rattle.std.proofs.Common.{◌≡◌, ℕ, ◌+◌, ◌-◌, ◌<◌, ◌≤◌, Bool, true, false, not, ◌&&◌, ◌||◌, eqb, ltb, sym, refl, ap, ◌∙◌, subst, ⊎_elim, arith}
 use Rattle.std.proofs.lemmas.Bool.{cases_eq, both_ways, lt-ltb, le-ltb, ne_eqb, cases_lt, and_right}
 use Rattle.sets.specs.Matroid.{pick, Set, outside}
-use Rattle.exchange.specs.Round.{Before}
+use Rattle.exchange.specs.Round.{no_worse}
 use Rattle.exchange.specs.Graph.{cost, takes, bettered, Changed}
 
 -- the heads below i have been followed
@@ -128,10 +128,10 @@ partly_step n to c settled reached d k back m i now e l ahead after e' l' ahead'
       where
         same_takes : now i ≡ reached i → e i ≡ d i → l i ≡ k i → takes now e l i x (k m + 1) ≡ takes reached d k i (d m + c m i) (k m + 1)
         same_takes a b g =
-            ap (λ (z : Bool). not z || not (Before (e i) (l i) x (k m + 1))) a
-            ∙ ap (λ (z : ℕ). not (reached i) || not (Before z (l i) x (k m + 1))) b
-            ∙ ap (λ (z : ℕ). not (reached i) || not (Before (d i) z x (k m + 1))) g
-            ∙ ap (λ (z : ℕ). not (reached i) || not (Before (d i) (k i) z (k m + 1))) at_x
+            ap (λ (z : Bool). not z || not (no_worse (e i) (l i) x (k m + 1))) a
+            ∙ ap (λ (z : ℕ). not (reached i) || not (no_worse z (l i) x (k m + 1))) b
+            ∙ ap (λ (z : ℕ). not (reached i) || not (no_worse (d i) z x (k m + 1))) g
+            ∙ ap (λ (z : ℕ). not (reached i) || not (no_worse (d i) (k i) z (k m + 1))) at_x
 
 -- the cost of an arc, by the side on which its tail stands
 pub cost_by_side : (s : Set) (w a : ℕ → ℕ) (v u : ℕ) (inside : Bool) (x paid : ℕ) → inside ≡ s v →

@@ -3,12 +3,12 @@ use Rattle.std.proofs.Common.{◌≡◌, ℕ, zero, suc, ◌+◌, ◌-◌, ◌<�
 use Rattle.std.proofs.lemmas.Bool.{cases_Bool, cases_lt, both_ways, and_parts}
 use Rattle.sets.specs.Bits.{marked}
 use Rattle.sets.specs.Matroid.{pick, Set, with, without, both}
-use Rattle.exchange.specs.Round.{Before, Labels, lost, End, behind, Closed}
+use Rattle.exchange.specs.Round.{no_worse, Labels, lost, End, behind, Closed}
 use Rattle.exchange.specs.Graph.{cost, table, Tables, Priced, Cheapest, Least, Reaching}
 use Rattle.exchange.proofs.Rounds.{addable_from, to_out, to_in, to_sides, from_out, from_in, source_parts, is_end, unreached}
 
 -- a cost that is a difference, put on both sides
-shifted : (d k e l c p q : ℕ) → p ≤ q → c ≡ q - p → Before d k (e + c) l ≡ true → Before (d + p) k (e + q) l ≡ true
+shifted : (d k e l c p q : ℕ) → p ≤ q → c ≡ q - p → no_worse d k (e + c) l ≡ true → no_worse (d + p) k (e + q) l ≡ true
 shifted d k e l c p q h r b = grind arith
 
 -- the cost of an arc out of the set

@@ -2,7 +2,7 @@
 use Rattle.std.proofs.Common.{◌≡◌, ℕ, ◌+◌, ◌<◌, ◌≤◌, Bool, true, false, not, ◌&&◌, ◌||◌, eqb, ◌⊎◌, sym, refl, ap, ◌∙◌, ⊎_elim, arith}
 use Rattle.std.proofs.lemmas.Bool.{cases_Bool, both_ways, and_parts}
 use Rattle.sets.specs.Matroid.{pick, Set}
-use Rattle.exchange.specs.Round.{Before}
+use Rattle.exchange.specs.Round.{no_worse}
 use Rattle.exchange.specs.Graph.{Cheapest, bettered, Changed}
 
 -- what holds between two turns
@@ -10,8 +10,8 @@ pub record Going (n : ℕ) (to : ℕ → ℕ → Bool) (c : ℕ → ℕ → ℕ)
   pub start : (x : ℕ) → x < n → source x ≡ true → (reached x ≡ true) × (d x ≡ 0) × (k x ≡ 1)
   pub held : (v : ℕ) → v < n → settled v ≡ true → reached v ≡ true
   pub step : (v u : ℕ) → v < n → u < n → settled v ≡ true → to v u ≡ true →
-      (reached u ≡ true) × (Before (d u) (k u) (d v + c v u) (k v + 1) ≡ true)
-  pub ahead : (v u : ℕ) → v < n → u < n → settled v ≡ true → reached u ≡ true → settled u ≡ false → Before (d v) (k v) (d u) (k u) ≡ true
+      (reached u ≡ true) × (no_worse (d u) (k u) (d v + c v u) (k v + 1) ≡ true)
+  pub ahead : (v u : ℕ) → v < n → u < n → settled v ≡ true → reached u ≡ true → settled u ≡ false → no_worse (d v) (k v) (d u) (k u) ≡ true
   pub along : (v : ℕ) → v < n → reached v ≡ true → 1 < k v →
       (back v < n) × (settled (back v) ≡ true) × (to (back v) v ≡ true) × (d v ≡ d (back v) + c (back v) v) × (k v ≡ k (back v) + 1)
   pub begun : (v : ℕ) → v < n → reached v ≡ true → k v ≤ 1 → (source v ≡ true) × (d v ≡ 0) × (1 ≤ k v)
@@ -28,43 +28,43 @@ complete n to c source settled reached d k back h all = record {
 }
 
 -- the order of labels, over plain numbers
-pub before_trans : (d k e l f m : ℕ) → Before d k e l ≡ true → Before e l f m ≡ true → Before d k f m ≡ true
+pub before_trans : (d k e l f m : ℕ) → no_worse d k e l ≡ true → no_worse e l f m ≡ true → no_worse d k f m ≡ true
 before_trans d k e l f m p q = grind arith
 
 -- a way gets worse with every arc
-before_more : (d k c : ℕ) → Before d k (d + c) (k + 1) ≡ true
+before_more : (d k c : ℕ) → no_worse d k (d + c) (k + 1) ≡ true
 before_more d k c = grind arith
 
 -- no label is better than itself
-pub before_refl : (v m : ℕ) (d k : ℕ → ℕ) → v ≡ m → Before (d v) (k v) (d m) (k m) ≡ true
+pub before_refl : (v m : ℕ) (d k : ℕ → ℕ) → v ≡ m → no_worse (d v) (k v) (d m) (k m) ≡ true
 before_refl v m d k s = grind arith
 
 -- the order of equal labels, on the left
-before_at : (d k e l f m : ℕ) → e ≡ d → l ≡ k → Before d k f m ≡ true → Before e l f m ≡ true
+before_at : (d k e l f m : ℕ) → e ≡ d → l ≡ k → no_worse d k f m ≡ true → no_worse e l f m ≡ true
 before_at d k e l f m p q h = grind arith
 
 -- .. and on the right
-before_onto : (d k e l f m : ℕ) → e ≡ d → l ≡ k → Before f m d k ≡ true → Before f m e l ≡ true
+before_onto : (d k e l f m : ℕ) → e ≡ d → l ≡ k → no_worse f m d k ≡ true → no_worse f m e l ≡ true
 before_onto d k e l f m p q h = grind arith
 
 -- equal labels are in order
-before_same : (d k e l : ℕ) → e ≡ d → l ≡ k → Before e l d k ≡ true
+before_same : (d k e l : ℕ) → e ≡ d → l ≡ k → no_worse e l d k ≡ true
 before_same d k e l p q = grind arith
 
 -- of two labels one is no worse
-pub before_other : (d k e l : ℕ) → Before d k e l ≡ false → Before e l d k ≡ true
+pub before_other : (d k e l : ℕ) → no_worse d k e l ≡ false → no_worse e l d k ≡ true
 before_other d k e l h = grind arith
 
 -- the order stays where the label before the arc is equal
-before_to : (d k e l f m c : ℕ) → f ≡ e → m ≡ l → Before d k (e + c) (l + 1) ≡ true → Before d k (f + c) (m + 1) ≡ true
+before_to : (d k e l f m c : ℕ) → f ≡ e → m ≡ l → no_worse d k (e + c) (l + 1) ≡ true → no_worse d k (f + c) (m + 1) ≡ true
 before_to d k e l f m c p q h = grind arith
 
 -- .. and where the element is
-before_from : (x y : ℕ → ℕ) (d k v m : ℕ) → v ≡ m → Before d k (x m) (y m) ≡ true → Before d k (x v) (y v) ≡ true
+before_from : (x y : ℕ → ℕ) (d k v m : ℕ) → v ≡ m → no_worse d k (x m) (y m) ≡ true → no_worse d k (x v) (y v) ≡ true
 before_from x y d k v m p h = grind arith
 
 -- a source has the best of labels
-first_before : (d k e m : ℕ) → d ≡ 0 → k ≡ 1 → Before d k e (m + 1) ≡ true
+first_before : (d k e m : ℕ) → d ≡ 0 → k ≡ 1 → no_worse d k e (m + 1) ≡ true
 first_before d k e m p q = grind arith
 
 -- where the way is not better, there is a label and it is no worse
@@ -100,7 +100,7 @@ better_parts false s r b p = absurd (both_ways false refl (and_parts false (not 
 module _ (n : ℕ) (to : ℕ → ℕ → Bool) (c : ℕ → ℕ → ℕ) (source settled done reached after : Set) (d k back e l ahead : ℕ → ℕ) (m : ℕ)
     (h : Going n to c source settled reached d k back)
     (below : m < n) (found : reached m ≡ true) (fresh : settled m ≡ false)
-    (least : (v : ℕ) → v < n → reached v ≡ true → settled v ≡ false → Before (d m) (k m) (d v) (k v) ≡ true)
+    (least : (v : ℕ) → v < n → reached v ≡ true → settled v ≡ false → no_worse (d m) (k m) (d v) (k v) ≡ true)
     (joined : (v : ℕ) → v < n → done v ≡ (settled v || eqb v m))
     (each : (u : ℕ) → u < n → Changed (λ u. d m + c m u) (k m + 1) m (bettered to c done reached d k m) reached after d k back e l ahead u) where
   -- the elements whose label is bettered
@@ -110,7 +110,7 @@ module _ (n : ℕ) (to : ℕ → ℕ → Bool) (c : ℕ → ℕ → ℕ) (source
   -- what became of the label of u: it stays, or the way by m is better
   data Way (u : ℕ) : Type 0 where
     stay : which u ≡ false → e u ≡ d u → l u ≡ k u → ahead u ≡ back u → after u ≡ reached u → Way u
-    move : to m u ≡ true → done u ≡ false → (reached u ≡ true → Before (d u) (k u) (d m + c m u) (k m + 1) ≡ false) →
+    move : to m u ≡ true → done u ≡ false → (reached u ≡ true → no_worse (d u) (k u) (d m + c m u) (k m + 1) ≡ false) →
         e u ≡ d m + c m u → l u ≡ k m + 1 → ahead u ≡ m → after u ≡ true → Way u
 
   -- which of the two it is
@@ -119,7 +119,7 @@ module _ (n : ℕ) (to : ℕ → ℕ → Bool) (c : ℕ → ℕ → ℕ) (source
       let x = each u p in
       ⊎_elim
       (λ (b : which u ≡ true).
-      let parts = better_parts (to m u) (done u) (reached u) (Before (d u) (k u) (d m + c m u) (k m + 1)) b in
+      let parts = better_parts (to m u) (done u) (reached u) (no_worse (d u) (k u) (d m + c m u) (k m + 1)) b in
       move parts.0 parts.1 parts.2 (pick_true (which u) _ _ _ b x.costs) (pick_true (which u) _ _ _ b x.steps)
       (pick_true (which u) _ _ _ b x.backs) (or_true (reached u) (which u) (after u) b x.marks))
       (λ (b : which u ≡ false).
@@ -144,7 +144,7 @@ module _ (n : ℕ) (to : ℕ → ℕ → Bool) (c : ℕ → ℕ → ℕ) (source
   held_m v p q = ⊎_elim (λ (s : settled v ≡ true). h.held v p s) (λ (s : v ≡ m). ap reached s ∙ found) (was v p q)
 
   -- a settled label is no later than that of m
-  early : (v : ℕ) → v < n → done v ≡ true → Before (d v) (k v) (d m) (k m) ≡ true
+  early : (v : ℕ) → v < n → done v ≡ true → no_worse (d v) (k v) (d m) (k m) ≡ true
   early v p q =
       ⊎_elim
       (λ (s : settled v ≡ true). h.ahead v m p below s found fresh)
@@ -163,10 +163,10 @@ module _ (n : ℕ) (to : ℕ → ℕ → Bool) (c : ℕ → ℕ → ℕ) (source
 
   -- no arc from a settled element betters a label
   turn_step : (v u : ℕ) → v < n → u < n → done v ≡ true → to v u ≡ true →
-      (after u ≡ true) × (Before (e u) (l u) (e v + c v u) (l v + 1) ≡ true)
+      (after u ≡ true) × (no_worse (e u) (l u) (e v + c v u) (l v + 1) ≡ true)
   turn_step v u p q s t =
       let old = same v p s in
-      let via : (after u ≡ true) × (Before (e u) (l u) (d v + c v u) (k v + 1) ≡ true) =
+      let via : (after u ≡ true) × (no_worse (e u) (l u) (d v + c v u) (k v + 1) ≡ true) =
       ⊎_elim
       (λ (w : settled v ≡ true).
       let x = h.step v u p q w t in
@@ -181,7 +181,7 @@ module _ (n : ℕ) (to : ℕ → ℕ → Bool) (c : ℕ → ℕ → ℕ) (source
       (was v p s) in
       (via.0, before_to (e u) (l u) (d v) (k v) (e v) (l v) (c v u) old.0 old.1 via.1)
     where
-      by_m : (u : ℕ) → u < n → to m u ≡ true → (after u ≡ true) × (Before (e u) (l u) (d m + c m u) (k m + 1) ≡ true)
+      by_m : (u : ℕ) → u < n → to m u ≡ true → (after u ≡ true) × (no_worse (e u) (l u) (d m + c m u) (k m + 1) ≡ true)
       by_m u q t =
           elim (way u q) [
             | stay b i j z o ↦
@@ -191,19 +191,19 @@ module _ (n : ℕ) (to : ℕ → ℕ → Bool) (c : ℕ → ℕ → ℕ) (source
                   before_at (d u) (k u) (e u) (l u) _ _ i j (before_trans _ _ (d m) (k m) _ _ (early u q f) (before_more (d m) (k m) (c m u))),
                 ))
                 (λ (f : done u ≡ false).
-                let x = not_better (to m u) (done u) (reached u) (Before (d u) (k u) (d m + c m u) (k m + 1)) t f b in
+                let x = not_better (to m u) (done u) (reached u) (no_worse (d u) (k u) (d m + c m u) (k m + 1)) t f b in
                 (o ∙ x.0, before_at (d u) (k u) (e u) (l u) _ _ i j x.1))
                 (cases_Bool (done u))
             | move b o r i j z f ↦ (f, before_same _ _ (e u) (l u) i j)
           ]
 
   -- the settled labels are no later than the others
-  turn_ahead : (v u : ℕ) → v < n → u < n → done v ≡ true → after u ≡ true → done u ≡ false → Before (e v) (l v) (e u) (l u) ≡ true
+  turn_ahead : (v u : ℕ) → v < n → u < n → done v ≡ true → after u ≡ true → done u ≡ false → no_worse (e v) (l v) (e u) (l u) ≡ true
   turn_ahead v u p q s r f =
       let old = same v p s in
       let x = early v p s in
       let unsettled : settled u ≡ false = let j = joined u q in grind arith in
-      let y : Before (d m) (k m) (e u) (l u) ≡ true =
+      let y : no_worse (d m) (k m) (e u) (l u) ≡ true =
       elim (way u q) [
         | stay b i j z o ↦ before_onto (d u) (k u) (e u) (l u) _ _ i j (least u q (sym o ∙ r) unsettled)
         | move b o g i j z t ↦ before_onto _ _ (e u) (l u) _ _ i j (before_more (d m) (k m) (c m u))

@@ -6,7 +6,7 @@ use Rattle.sets.specs.Matroid.{without, with, none}
 use Rattle.matroid.specs.Examples.{left, right, price, middle, outer}
 use Rattle.matroid.proofs.SmallMatroids.{small_matroids, small_heaviest}
 use Rattle.matroid.proofs.TightExchanges.{many_exchanges_by_keys_and_one}
-use Rattle.exchange.specs.Round.{top, State, Before, Labels, End, lost, behind}
+use Rattle.exchange.specs.Round.{top, State, no_worse, Labels, End, lost, behind}
 use Rattle.exchange.specs.Paths.{Route, Augmenting, BestPath, Leading}
 use Rattle.exchange.specs.Predecessors.{twice, comes, goes, Predecessors}
 use Rattle.exchange.specs.Examples.{costs, steps, earlier, SmallLabelled, coming, going, SmallPath, SmallDual}
@@ -47,11 +47,11 @@ small_labels : Labels 3 left right price (λ x. 0) middle (λ x. true) costs ste
 small_labels = record {
   start = λ x h. below_three (λ v. middle v ≡ false → left (with middle v) ≡ true → (true ≡ true) × (costs v ≡ 0) × (steps v ≡ 1))
       (λ out source. absurd (both_ways false refl source)) (λ out source. absurd (both_ways true out refl)) (λ out source. (refl, refl, refl)) x h;
-  out = λ x y hx hy out held r arc. is_one (λ v. (true ≡ true) × (Before (costs v + (price x + 0)) (steps v) (costs x + (price v + 0)) (steps x + 1) ≡ true))
-      (below_three (λ u. middle u ≡ false → (true ≡ true) × (Before (1 + (price u + 0)) 2 (costs u + 5) (steps u + 1) ≡ true))
+  out = λ x y hx hy out held r arc. is_one (λ v. (true ≡ true) × (no_worse (costs v + (price x + 0)) (steps v) (costs x + (price v + 0)) (steps x + 1) ≡ true))
+      (below_three (λ u. middle u ≡ false → (true ≡ true) × (no_worse (1 + (price u + 0)) 2 (costs u + 5) (steps u + 1) ≡ true))
       (λ o. (refl, refl)) (λ o. absurd (both_ways true o refl)) (λ o. (refl, refl)) x hx out) y held;
-  into = λ y x hy hx held out r arc. is_one (λ v. (true ≡ true) × (Before (costs x + 0) (steps x) (costs v + 0) (steps v + 1) ≡ true))
-      (below_three (λ u. middle u ≡ false → (true ≡ true) × (Before (costs u + 0) (steps u) 1 3 ≡ true))
+  into = λ y x hy hx held out r arc. is_one (λ v. (true ≡ true) × (no_worse (costs x + 0) (steps x) (costs v + 0) (steps v + 1) ≡ true))
+      (below_three (λ u. middle u ≡ false → (true ≡ true) × (no_worse (costs u + 0) (steps u) 1 3 ≡ true))
       (λ o. (refl, refl)) (λ o. absurd (both_ways true o refl)) (λ o. (refl, refl)) x hx out) y held;
   from_second = λ y h held r. is_one (λ v. (earlier v < 3) × (middle (earlier v) ≡ false) × (true ≡ true) × (right (with (without middle v) (earlier v)) ≡ true) ×
       (costs v + (price (earlier v) + 0) ≡ costs (earlier v) + (price v + 0)) × (steps v ≡ steps (earlier v) + 1))
@@ -72,7 +72,7 @@ small_end = record {
   found = refl;
   fits = refl;
   least = λ x h. below_three (λ v. middle v ≡ false → true ≡ true → right (with middle v) ≡ true →
-      Before (lost price (λ x. 0) costs 0) 3 (lost price (λ x. 0) costs v) (steps v) ≡ true)
+      no_worse (lost price (λ x. 0) costs 0) 3 (lost price (λ x. 0) costs v) (steps v) ≡ true)
       (λ o r s. refl) (λ o. absurd (both_ways true o refl)) (λ o r s. absurd (both_ways false refl s)) x h;
 }
 

@@ -3,7 +3,7 @@
 use Rattle.std.specs.Prelude.{◌≡◌, ℕ, ◌+◌, ◌-◌, ◌*◌, ◌<◌, ◌≤◌, Bool, true, false, not, ◌&&◌, ◌||◌, List, slice_index}
 use Rattle.sets.specs.Bits.{marked, word_row, row_words}
 use Rattle.sets.specs.Matroid.{pick, Set, without, with}
-use Rattle.exchange.specs.Round.{top, Before}
+use Rattle.exchange.specs.Round.{top, no_worse}
 
 -- an arc from v to u: out of the set by the first test (u in the place of v), into it by the second (v in the place of u)
 unfoldable pub arc : (Set → Bool) → (Set → Bool) → Set → ℕ → ℕ → Bool
@@ -42,14 +42,14 @@ pub record Priced (n : ℕ) (to : ℕ → ℕ → Bool) (s : Set) (w a : ℕ →
 pub record Cheapest (n : ℕ) (to : ℕ → ℕ → Bool) (c : ℕ → ℕ → ℕ) (source reached : Set) (d k back : ℕ → ℕ) : Type 0 where
   pub start : (x : ℕ) → x < n → source x ≡ true → (reached x ≡ true) × (d x ≡ 0) × (k x ≡ 1)
   pub step : (v u : ℕ) → v < n → u < n → reached v ≡ true → to v u ≡ true →
-      (reached u ≡ true) × (Before (d u) (k u) (d v + c v u) (k v + 1) ≡ true)
+      (reached u ≡ true) × (no_worse (d u) (k u) (d v + c v u) (k v + 1) ≡ true)
   pub along : (v : ℕ) → v < n → reached v ≡ true → 1 < k v →
       (back v < n) × (reached (back v) ≡ true) × (to (back v) v ≡ true) × (d v ≡ d (back v) + c (back v) v) × (k v ≡ k (back v) + 1)
   pub begun : (v : ℕ) → v < n → reached v ≡ true → k v ≤ 1 → (source v ≡ true) × (d v ≡ 0)
 
 -- a new label is taken at u: there is none yet, or it is better
 abbrev pub takes : Set → (ℕ → ℕ) → (ℕ → ℕ) → ℕ → ℕ → ℕ → Bool
-takes reached d k u e l = not (reached u) || not (Before (d u) (k u) e l)
+takes reached d k u e l = not (reached u) || not (no_worse (d u) (k u) e l)
 
 -- the label of u is bettered by an arc from m, where u is not settled
 abbrev pub bettered : (ℕ → ℕ → Bool) → (ℕ → ℕ → ℕ) → Set → Set → (ℕ → ℕ) → (ℕ → ℕ) → ℕ → ℕ → Bool
@@ -65,7 +65,7 @@ pub record Changed (e : ℕ → ℕ) (l m : ℕ) (which reached after : Set) (d 
 -- one of the elements below n of a set, of least cost, and of these of fewest steps
 abbrev pub Least : ℕ → Set → (ℕ → ℕ) → (ℕ → ℕ) → ℕ → Type 0
 Least n among d k m =
-    (m < n) × (among m ≡ true) × ((v : ℕ) → v < n → among v ≡ true → Before (d m) (k m) (d v) (k v) ≡ true)
+    (m < n) × (among m ≡ true) × ((v : ℕ) → v < n → among v ≡ true → no_worse (d m) (k m) (d v) (k v) ≡ true)
 
 -- labels are small: what a path has cost is at most its steps times the largest weight
 abbrev pub SmallLabels : ℕ → (ℕ → ℕ) → (ℕ → ℕ) → Set → (ℕ → ℕ) → (ℕ → ℕ) → ℕ → Type 0

@@ -19,16 +19,16 @@ pub record State (n : ℕ) (f g : Set → Bool) (w a : ℕ → ℕ) (loss : ℕ)
   pub small : (x : ℕ) → x < n → a x ≤ loss
 
 -- by cost, and then by steps: (d, k) is no worse than (e, l)
-abbrev pub Before : ℕ → ℕ → ℕ → ℕ → Bool
-Before d k e l = nat_lt d e || (d == e && not (nat_lt l k))
+abbrev pub no_worse : ℕ → ℕ → ℕ → ℕ → Bool
+no_worse d k e l = nat_lt d e || (d == e && not (nat_lt l k))
 
 -- complete labels: cost d, steps k and predecessor of each reached element
 pub record Labels (n : ℕ) (f g : Set → Bool) (w a : ℕ → ℕ) (s reached : Set) (d k back : ℕ → ℕ) : Type 0 where
   pub start : (x : ℕ) → x < n → s x ≡ false → f (with s x) ≡ true → (reached x ≡ true) × (d x ≡ 0) × (k x ≡ 1)
   pub out : (x y : ℕ) → x < n → y < n → s x ≡ false → s y ≡ true → reached x ≡ true → g (with (without s y) x) ≡ true →
-      (reached y ≡ true) × (Before (d y + (w x + a y)) (k y) (d x + (w y + a x)) (k x + 1) ≡ true)
+      (reached y ≡ true) × (no_worse (d y + (w x + a y)) (k y) (d x + (w y + a x)) (k x + 1) ≡ true)
   pub into : (y x : ℕ) → y < n → x < n → s y ≡ true → s x ≡ false → reached y ≡ true → f (with (without s y) x) ≡ true →
-      (reached x ≡ true) × (Before (d x + a x) (k x) (d y + a y) (k y + 1) ≡ true)
+      (reached x ≡ true) × (no_worse (d x + a x) (k x) (d y + a y) (k y + 1) ≡ true)
   pub from_second : (y : ℕ) → y < n → s y ≡ true → reached y ≡ true →
       (back y < n) × (s (back y) ≡ false) × (reached (back y) ≡ true) × (g (with (without s y) (back y)) ≡ true) ×
       (d y + (w (back y) + a y) ≡ d (back y) + (w y + a (back y))) × (k y ≡ k (back y) + 1)
@@ -48,7 +48,7 @@ pub record End (n : ℕ) (g : Set → Bool) (w a : ℕ → ℕ) (s reached : Set
   pub found : reached t ≡ true
   pub fits : g (with s t) ≡ true
   pub least : (x : ℕ) → x < n → s x ≡ false → reached x ≡ true → g (with s x) ≡ true →
-      Before (lost w a d t) (k t) (lost w a d x) (k x) ≡ true
+      no_worse (lost w a d t) (k t) (lost w a d x) (k x) ≡ true
 
 -- j steps back from t along the predecessors
 abbrev pub behind : (ℕ → ℕ) → ℕ → ℕ → ℕ

@@ -1,7 +1,7 @@
 // The end of a best path, and the set with the path's elements changed.
 ghost use Rattle.std.specs.Prelude.{◌≡◌, ℕ, ◌+◌, ◌-◌, ◌*◌, ◌<◌, ◌≤◌, true, false, not, length, MatchOption};
 ghost use Rattle.exchange.specs.Graph.{at, SmallLabels, Least};
-ghost use Rattle.exchange.specs.Round.{top, Before, lost, behind, flipped, toggled};
+ghost use Rattle.exchange.specs.Round.{top, no_worse, lost, behind, flipped, toggled};
 ghost use Rattle.sets.specs.Bits.{marked, row_words};
 ghost use Rattle.sets.specs.Matroid.{both};
 
@@ -33,7 +33,7 @@ fn better_end(
     requires numbers { (n ≤ length weights.now) × ((n ≤ length potentials.now) × ((n ≤ length costs.now) × (n ≤ length steps.now))) }
     requires light { (v : ℕ) → v < n → at weights.now v ≤ top }
     requires small { (x < n) × ((at costs.now x + at potentials.now x ≤ 602 * top) × (MatchOption best (0 ≤ n) (λ t. (t < n) × (at costs.now t + at potentials.now t ≤ 602 * top)))) }
-    ensures { MatchOption best (result ≡ true) (λ t. result ≡ not (Before (lost (at weights.now) (at potentials.now) (at costs.now) t) (at steps.now t) (lost (at weights.now) (at potentials.now) (at costs.now) x) (at steps.now x))) }
+    ensures { MatchOption best (result ≡ true) (λ t. result ≡ not (no_worse (lost (at weights.now) (at potentials.now) (at costs.now) t) (at steps.now t) (lost (at weights.now) (at potentials.now) (at costs.now) x) (at steps.now x))) }
 {
     match best {
         Some(t) => sooner(

@@ -1,7 +1,7 @@
 // Labels from the sources: by cost and then by steps, the least unsettled label settled first.
 ghost use Rattle.std.specs.Prelude.{◌≡◌, ℕ, ◌+◌, ◌-◌, ◌*◌, ◌<◌, ◌≤◌, true, false, not, ◌&&◌, ◌||◌, length, MatchOption, ◌==◌};
 ghost use Rattle.exchange.specs.Graph.{at, cost, table, takes, bettered, Changed, Priced, Cheapest, SmallLabels, Least};
-ghost use Rattle.exchange.specs.Round.{top, Before};
+ghost use Rattle.exchange.specs.Round.{top, no_worse};
 ghost use Rattle.sets.specs.Bits.{marked, row_words};
 ghost use Rattle.sets.specs.Matroid.{pick, outside};
 
@@ -79,7 +79,7 @@ fn relax(
 
 // Is the label (d, k) less than the label (e, l)?
 pub fn sooner(d: u32, k: u32, e: u32, l: u32) -> bool
-    ensures { result ≡ not (Before e l d k) }
+    ensures { result ≡ not (no_worse e l d k) }
 {
     d < e || (d == e && k < l)
 }
@@ -87,7 +87,7 @@ pub fn sooner(d: u32, k: u32, e: u32, l: u32) -> bool
 // Is the label of v less than the least so far?
 fn nearer(n: usize, costs: &[u32], steps: &[u32], v: usize, least: Option<usize>) -> bool
     requires { (n ≤ length costs.now) × ((n ≤ length steps.now) × ((v < n) × (MatchOption least (0 ≤ n) (λ m. m < n)))) }
-    ensures { MatchOption least (result ≡ true) (λ m. result ≡ not (Before (at costs.now m) (at steps.now m) (at costs.now v) (at steps.now v))) }
+    ensures { MatchOption least (result ≡ true) (λ m. result ≡ not (no_worse (at costs.now m) (at steps.now m) (at costs.now v) (at steps.now v))) }
 {
     match least {
         Some(m) => sooner(costs[v], steps[v], costs[m], steps[m]),

@@ -61,7 +61,7 @@ module _ (file : List ℕ) (n groups at : ℕ) (few : groups ≤ 64) (s : Set) (
       (λ none. takes n (in_group file n at) (limit file n at) groups s x l e r.allowed
       (λ g k a b. both_ways (blocks state x g) (none g (omega arith)) (blocked x g l k a b)))
 
-  -- the two words of blocks-but, one below the other
+  -- the two words of blocks_but, one below the other
   but_bit : (u a b j : ℕ) (p q t : Bool) → b < 2 ^ 32 → j < 32 → bit u j ≡ p → bit a j ≡ q → bit b j ≡ t →
       bit (bit_and (bit_and u a) (4294967295 - b)) j ≡ (p && q && not t)
   but_bit u a b j p q t l k eu ea eb =

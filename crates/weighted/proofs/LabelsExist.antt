@@ -3,7 +3,7 @@ use Rattle.std.proofs.Common.{◌≡◌, ℕ, zero, suc, ◌+◌, ◌<◌, ◌�
 use Rattle.std.proofs.lemmas.Bool.{cases_eq, both_ways}
 use Rattle.sets.specs.Matroid.{pick, Set, size, with, none, Within}
 use Rattle.sets.proofs.FiniteSets.{least, look_up, size_with, part_as_large}
-use Rattle.exchange.specs.Round.{Before}
+use Rattle.exchange.specs.Round.{no_worse}
 use Rattle.exchange.specs.Graph.{arc, addable, cost, Cheapest, bettered, Least}
 use Rattle.exchange.proofs.LeadingExists.{size_all}
 use Rattle.exchange.proofs.Settling.{Going, complete, turn}
@@ -30,7 +30,7 @@ least_label n p d k x h e =
     front p q h = grind arith
 
     order : (dq kq dv kv dr : ℕ) (pv pq : Bool) → (pq && eqb dq dr) ≡ true → dr ≤ dv → pv ≡ true → ((pv && eqb dv dr) ≡ true → kq ≤ kv) →
-        Before dq kq dv kv ≡ true
+        no_worse dq kq dv kv ≡ true
     order dq kq dv kv dr pv pq h l f more = ⊎_elim
         (λ (e : dv ≡ dr). let m : kq ≤ kv = more (grind arith) in grind arith)
         (λ (e : dv ≡ dr → ⊥). grind arith)
