@@ -1,7 +1,7 @@
 #!/usr/bin/env python3
 """Times the built programs on files of 150, 300 and 600 offers, for every pair of kinds of rules.
 
-    rt check choose check && python3 bench/run.py
+    (cd crates/choose && rt run); (cd crates/checker && rt run); python3 bench/run.py
 
 It writes its files to a temporary folder and prints a table: seconds to choose, seconds to check the certificate, and
 the memory of the chooser.
@@ -15,7 +15,9 @@ import sys
 import tempfile
 import time
 
-BIN = os.path.join(os.path.dirname(os.path.abspath(__file__)), '..', 'target', 'bin')
+CRATES = os.path.join(os.path.dirname(os.path.abspath(__file__)), '..', 'crates')
+CHOOSE = os.path.join(CRATES, 'choose', 'out', 'choose')
+CHECK = os.path.join(CRATES, 'checker', 'out', 'checker')
 KINDS = {1: 'limits', 2: 'volunteers', 3: 'links', 4: 'rows'}
 
 
@@ -76,9 +78,9 @@ def main():
                 for b in KINDS:
                     with open(offers, 'wb') as f:
                         f.write(struct.pack('<H', n) + weights + MAKE[a](n) + MAKE[b](n))
-                    took, done = timed([os.path.join(BIN, 'choose'), offers, sheet])
+                    took, done = timed([CHOOSE, offers, sheet])
                     size = sum(line.startswith('size') for line in done.stdout.split('\n'))
-                    checked, verdict = timed([os.path.join(BIN, 'check'), offers, sheet])
+                    checked, verdict = timed([CHECK, offers, sheet])
                     word = '' if verdict.stdout == 'accepted\n' else '  ' + verdict.stdout.strip()
                     print(f'{n:6}  {KINDS[a]:10} {KINDS[b]:10} {size:4}  {took:8.2f} {checked:8.2f}{word}')
     memory = resource.getrusage(resource.RUSAGE_CHILDREN).ru_maxrss // 1024

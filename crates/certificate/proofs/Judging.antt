@@ -49,15 +49,15 @@ module _ (n : ℕ) (f g : Set → Bool) (w : ℕ → ℕ) (p q : ℕ → ℤ) (s
 
   -- and where it does not, the second rule decides
   left_second : Matroid n f → Matroid n g → p x +ℤ q x ≡ pos (w x) → (Outdoes n f p s x → ⊥) → Misjudged n f g w p q s x → Outdoes n g q s x
-  left_second mf mg e no-first (unequal h) = absurd (h e)
-  left_second mf mg e no-first (first o b) = absurd (no-first (outbids_outdoes n f p s x mf b))
-  left_second mf mg e no-first (second o b) = outbids_outdoes n g q s x mg b
+  left_second mf mg e no_first (unequal h) = absurd (h e)
+  left_second mf mg e no_first (first o b) = absurd (no_first (outbids_outdoes n f p s x mf b))
+  left_second mf mg e no_first (second o b) = outbids_outdoes n g q s x mg b
 
   -- an offer that the first rule leaves is in fault where it outdoes a chosen one by the second
   pub judged_second : Matroid n f → Matroid n g → s x ≡ false → p x +ℤ q x ≡ pos (w x) → (Outdoes n f p s x → ⊥) → (r : Bool) →
       Decides r (Outdoes n g q s x) → Decides r (Misjudged n f g w p q s x)
-  judged_second mf mg o e no-first r d =
-      (λ h. second o (outdoes_outbids n g q s x (d.0 h)), λ m. d.1 (left_second mf mg e no-first m))
+  judged_second mf mg o e no_first r d =
+      (λ h. second o (outdoes_outbids n g q s x (d.0 h)), λ m. d.1 (left_second mf mg e no_first m))
 
 -- and one that held
 pub less : (a b c d : ℤ) → lt_z a b ≡ true → a ≡ c → b ≡ d → c <ℤ d

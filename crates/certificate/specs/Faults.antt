@@ -25,7 +25,7 @@ pub data ByteFault (n : ℕ) (sheet : List ℕ) : ℕ → Refusal → Type 0 whe
 
 -- a set that should have size k: it has another size or the first rule refuses it, or the second does
 pub data SetFault (n : ℕ) (f g : Set → Bool) (k : ℕ) (s : Set) : ℕ → Refusal → Type 0 where
-  wrong_size : (size n s ≢ k) → SetFault n f g k s 0 (Refused k false)
+  wrong_size : size n s ≢ k → SetFault n f g k s 0 (Refused k false)
   first_refuses : f s ≡ false → SetFault n f g k s 0 (Refused k false)
   second_refuses : g s ≡ false → SetFault n f g k s 1 (Refused k true)
 
@@ -49,7 +49,7 @@ Outbids n f p s x =
 
 -- offer x's numbers do not add up to its weight, or it is not chosen and outbids a chosen one by a rule and its number
 pub data Misjudged (n : ℕ) (f g : Set → Bool) (w : ℕ → ℕ) (p q : ℕ → ℤ) (s : Set) (x : ℕ) : Type 0 where
-  unequal : (p x +ℤ q x ≢ pos (w x)) → Misjudged n f g w p q s x
+  unequal : p x +ℤ q x ≢ pos (w x) → Misjudged n f g w p q s x
   first : s x ≡ false → Outbids n f p s x → Misjudged n f g w p q s x
   second : s x ≡ false → Outbids n g q s x → Misjudged n f g w p q s x
 

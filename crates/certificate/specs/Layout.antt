@@ -1,8 +1,7 @@
 -- Where the parts of a certificate stand in its bytes: a row of bits for the largest set, one for its dual set, and for each
 -- size from 1 on a row for its set and two signed numbers of eight bytes for each offer. Assumes nothing: these are definitions.
 use Rattle.std.specs.Prelude.{◌≡◌, ℕ, ◌+◌, ◌-◌, ◌*◌, ◌<◌, ◌≤◌, false, List, length, ℤ}
-use Rattle.std.specs.Int.{w64}
-use Rattle.std.proofs.Common.{to_z}
+use Rattle.std.specs.Int.{w64, cast_signed}
 use Rattle.sets.specs.Bits.{row, row_bytes, le8}
 use Rattle.sets.specs.Matroid.{Set, size}
 
@@ -30,7 +29,7 @@ needed n sheet = row_at n (count n sheet + 2)
 
 -- the number of offer x among numbers that begin at a byte, sixteen bytes apart: two's complement, the low byte first
 unfoldable pub part : List ℕ → ℕ → ℕ → ℤ
-part sheet at x = to_z w64 (le8 sheet (at + 16 * x))
+part sheet at x = cast_signed w64 (le8 sheet (at + 16 * x))
 
 -- where the numbers of size k begin
 abbrev pub numbers_at : ℕ → ℕ → ℕ

@@ -44,7 +44,7 @@ grown_pass n to old here i grown h g = record {
 pub grown_take : (n : ℕ) (to : ℕ → ℕ → Bool) (old here after : Set) (i x : ℕ) (grown : Bool) → i < n → x < n → here i ≡ false →
     to i x ≡ true → here x ≡ true → ((j : ℕ) → after j ≡ pick (eqb j i) true (here j)) →
     Grown n to old here i grown → Grown n to old after (i + 1) true
-grown_take n to old here after i x grown p q fresh arc in-x each g = record {
+grown_take n to old here after i x grown p q fresh arc in_x each g = record {
   larger = λ j h. wider j (g.larger j h);
   more = λ _.
       let a = size_mono n old here (λ v _ h. g.larger v h) in
@@ -54,7 +54,7 @@ grown_take n to old here after i x grown p q fresh arc in-x each g = record {
   least = λ t b h j l r.
       let before = g.least t b h in
       ⊎_elim
-      (λ (s : j ≡ i). ap t s ∙ b i x p q arc (before x q in-x))
+      (λ (s : j ≡ i). ap t s ∙ b i x p q arc (before x q in_x))
       (λ (s : j ≡ i → ⊥). before j l (sym (each j ∙ ap (λ (y : Bool). pick y true (here j)) (ne_eqb j i s)) ∙ r))
       (cases_eq j i);
 }

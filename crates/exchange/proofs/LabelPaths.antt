@@ -10,8 +10,8 @@ use Rattle.exchange.proofs.Along.{among_none, among_at, among_all, among_same}
 use Rattle.exchange.proofs.Chains.{twice_is, mark, Outer, Inner, half, inside, outer, first_source}
 
 -- what the order of labels says
-pub before_tells : (d k e l : ℕ) → no_worse d k e l ≡ true → (d ≤ e) × (d ≡ e → k ≤ l)
-before_tells d k e l h = (grind arith, λ s. grind arith)
+pub no_worse_tells : (d k e l : ℕ) → no_worse d k e l ≡ true → (d ≤ e) × (d ≡ e → k ≤ l)
+no_worse_tells d k e l h = (grind arith, λ s. grind arith)
 
 module _ (n : ℕ) (f g : Set → Bool) (w a : ℕ → ℕ) (loss : ℕ) (s reached : Set) (d k back : ℕ → ℕ) (state : State n f g w a loss s)
     (labels : Labels n f g w a s reached d k back) where
@@ -34,8 +34,8 @@ module _ (n : ℕ) (f g : Set → Bool) (w a : ℕ → ℕ) (loss : ℕ) (s reac
       (path.route.y_held j h) r.0 (path.route.by_second j h) in
       let q = labels.into (v j) (u (suc j)) (path.route.y_below j h) (path.route.x_below (suc j) h) (path.route.y_held j h)
       (path.route.x_fresh (suc j) h) p.0 (path.route.by_first j h) in
-      let lp = before_tells (d (v j) + (w (u j) + a (v j))) (k (v j)) (d (u j) + (w (v j) + a (u j))) (k (u j) + 1) p.1 in
-      let lq = before_tells (d (u (suc j)) + a (u (suc j))) (k (u (suc j))) (d (v j) + a (v j)) (k (v j) + 1) q.1 in
+      let lp = no_worse_tells (d (v j) + (w (u j) + a (v j))) (k (v j)) (d (u j) + (w (v j) + a (u j))) (k (u j) + 1) p.1 in
+      let lq = no_worse_tells (d (u (suc j)) + a (u (suc j))) (k (u (suc j))) (d (v j) + a (v j)) (k (v j) + 1) q.1 in
       let s1 : total w u j + (d (u j) + a (u j)) ≤ total w v j = r.1 in
       let s2 : d (v j) + (w (u j) + a (v j)) ≤ d (u j) + (w (v j) + a (u j)) = lp.0 in
       let s3 : d (u (suc j)) + a (u (suc j)) ≤ d (v j) + a (v j) = lq.0 in (
@@ -127,7 +127,7 @@ module _ (n : ℕ) (f g : Set → Bool) (w a : ℕ → ℕ) (loss : ℕ) (s reac
         NoMore w l u v m (comes back t m) (goes back t m) × (AsMuch w l u v m (comes back t m) (goes back t m) → m ≤ l)
     path_best l u v other =
         let r = walked n f g w a loss s reached d k back state labels l u v other l (omega arith) in
-        let p = before_tells (lost w a d t) (k t) (lost w a d (u l)) (k (u l))
+        let p = no_worse_tells (lost w a d t) (k t) (lost w a d (u l)) (k (u l))
         (end.least (u l) (other.route.x_below l (omega arith)) (other.route.x_fresh l (omega arith)) r.0 other.route.sink) in
         let s1 : total w u l + (d (u l) + a (u l)) ≤ total w v l = r.1 in
         let s2 : lost w a d t ≤ lost w a d (u l) = p.0 in

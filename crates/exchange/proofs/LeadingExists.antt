@@ -74,7 +74,7 @@ module _ (n : ℕ) (f g : Set → Bool) (s : Set) where
       (λ found. let r = parts (u found.0) (ready found.0) found.2 in
       grow m (with u found.0) (omega (arith, size_with n u found.0 found.1 r.0))
       (sound_with u found.0 sound (ready_leads found.0 found.1 r.1)))
-      (λ no-sink. ⊎_elim
+      (λ no_sink. ⊎_elim
       (λ found. let r = three (u found.0) (u found.1) (step found.0 found.1) found.4 in
       grow m (with u found.0) (omega (arith, size_with n u found.0 found.2 r.0))
       (sound_with u found.0 sound (step_leads found.0 found.1 found.2 found.3 r.2 (sound found.1 found.3 r.1))))
@@ -82,7 +82,7 @@ module _ (n : ℕ) (f g : Set → Bool) (s : Set) where
         u,
         sound,
         (
-          (λ z l e. not_ready (u z) (ready z) e (no-sink z l)),
+          (λ z l e. not_ready (u z) (ready z) e (no_sink z l)),
           (λ z v l k e i. not_step (u z) (u v) (step z v) e i (no_step z v l k)),
         ),
       ))

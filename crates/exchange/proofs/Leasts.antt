@@ -4,7 +4,7 @@ use Rattle.std.proofs.lemmas.Bool.{cases_eq, cases_lt, both_ways, not-true, not-
 use Rattle.sets.specs.Matroid.{Set}
 use Rattle.exchange.specs.Round.{no_worse}
 use Rattle.exchange.specs.Graph.{Least}
-use Rattle.exchange.proofs.Settling.{before_refl, before_trans, before_other}
+use Rattle.exchange.proofs.Settling.{no_worse_refl, no_worse_trans, no_worse_other}
 
 -- what holds of every element below i and of i holds of every element below i + 1
 extend : (P : ℕ → Type 0) (i : ℕ) → ((v : ℕ) → v < i → P v) → P i → (v : ℕ) → v < i + 1 → P v
@@ -20,7 +20,7 @@ least_first i among d k h here = (
   omega arith,
   here,
   extend (λ (v : ℕ). among v ≡ true → no_worse (d i) (k i) (d v) (k v) ≡ true) i (λ v p q. absurd (both_ways (among v) (h v p) q))
-      (λ _. before_refl i i d k refl),
+      (λ _. no_worse_refl i i d k refl),
 )
 
 -- i is not among them, or no better
@@ -42,7 +42,7 @@ least_move i among d k t h here b = (
   omega arith,
   here,
   extend (λ (v : ℕ). among v ≡ true → no_worse (d i) (k i) (d v) (k v) ≡ true) i
-      (λ v p q. before_trans (d i) (k i) (d t) (k t) (d v) (k v) (before_other (d t) (k t) (d i) (k i) b) (h.2 v p q)) (λ _. before_refl i i d k refl),
+      (λ v p q. no_worse_trans (d i) (k i) (d t) (k t) (d v) (k v) (no_worse_other (d t) (k t) (d i) (k i) b) (h.2 v p q)) (λ _. no_worse_refl i i d k refl),
 )
 
 -- the best of the elements below i

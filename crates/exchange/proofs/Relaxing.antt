@@ -82,7 +82,7 @@ none_then : (e f : ℕ → ℕ) (l m : ℕ) (which other all reached now after :
     which u ≡ false → (now u ≡ reached u → d' u ≡ d u → k' u ≡ k u → other u ≡ all u) → f u ≡ e u →
     Changed e l m which reached now d k back d' k' back' u → Changed f l m other now after d' k' back' d'' k'' back'' u →
     Changed e l m all reached after d k back d'' k'' back'' u
-none_then e f l m which other all reached now after d k back d' k' back' d'' k'' back'' u off same at-u h g =
+none_then e f l m which other all reached now after d k back d' k' back' d'' k'' back'' u off same at_u h g =
     let a : now u ≡ reached u = h.marks ∙ sym (no_change (which u) (reached u) off) in
     let b : d' u ≡ d u = h.costs ∙ sym (picks_second (which u) (e u) (d u) off) in
     let c : k' u ≡ k u = h.steps ∙ sym (picks_second (which u) l (k u) off) in
@@ -90,7 +90,7 @@ none_then e f l m which other all reached now after d k back d' k' back' d'' k''
     let q = same a b c in
     record {
       marks = g.marks ∙ ap (λ (z : Bool). z || other u) a ∙ ap (λ (z : Bool). reached u || z) q;
-      costs = g.costs ∙ ap (λ (z : ℕ). pick (other u) (f u) z) b ∙ ap (λ (z : Bool). pick z (f u) (d u)) q ∙ ap (λ (z : ℕ). pick (all u) z (d u)) at-u;
+      costs = g.costs ∙ ap (λ (z : ℕ). pick (other u) (f u) z) b ∙ ap (λ (z : Bool). pick z (f u) (d u)) q ∙ ap (λ (z : ℕ). pick (all u) z (d u)) at_u;
       steps = g.steps ∙ ap (λ (z : ℕ). pick (other u) l z) c ∙ ap (λ (z : Bool). pick z l (k u)) q;
       backs = g.backs ∙ ap (λ (z : ℕ). pick (other u) m z) x ∙ ap (λ (z : Bool). pick z m (back u)) q;
     }

@@ -28,16 +28,16 @@ complete n to c source settled reached d k back h all = record {
 }
 
 -- the order of labels, over plain numbers
-pub before_trans : (d k e l f m : ℕ) → no_worse d k e l ≡ true → no_worse e l f m ≡ true → no_worse d k f m ≡ true
-before_trans d k e l f m p q = grind arith
+pub no_worse_trans : (d k e l f m : ℕ) → no_worse d k e l ≡ true → no_worse e l f m ≡ true → no_worse d k f m ≡ true
+no_worse_trans d k e l f m p q = grind arith
 
 -- a way gets worse with every arc
 before_more : (d k c : ℕ) → no_worse d k (d + c) (k + 1) ≡ true
 before_more d k c = grind arith
 
 -- no label is better than itself
-pub before_refl : (v m : ℕ) (d k : ℕ → ℕ) → v ≡ m → no_worse (d v) (k v) (d m) (k m) ≡ true
-before_refl v m d k s = grind arith
+pub no_worse_refl : (v m : ℕ) (d k : ℕ → ℕ) → v ≡ m → no_worse (d v) (k v) (d m) (k m) ≡ true
+no_worse_refl v m d k s = grind arith
 
 -- the order of equal labels, on the left
 before_at : (d k e l f m : ℕ) → e ≡ d → l ≡ k → no_worse d k f m ≡ true → no_worse e l f m ≡ true
@@ -52,8 +52,8 @@ before_same : (d k e l : ℕ) → e ≡ d → l ≡ k → no_worse e l d k ≡ t
 before_same d k e l p q = grind arith
 
 -- of two labels one is no worse
-pub before_other : (d k e l : ℕ) → no_worse d k e l ≡ false → no_worse e l d k ≡ true
-before_other d k e l h = grind arith
+pub no_worse_other : (d k e l : ℕ) → no_worse d k e l ≡ false → no_worse e l d k ≡ true
+no_worse_other d k e l h = grind arith
 
 -- the order stays where the label before the arc is equal
 before_to : (d k e l f m c : ℕ) → f ≡ e → m ≡ l → no_worse d k (e + c) (l + 1) ≡ true → no_worse d k (f + c) (m + 1) ≡ true
@@ -148,7 +148,7 @@ module _ (n : ℕ) (to : ℕ → ℕ → Bool) (c : ℕ → ℕ → ℕ) (source
   early v p q =
       ⊎_elim
       (λ (s : settled v ≡ true). h.ahead v m p below s found fresh)
-      (λ (s : v ≡ m). before_refl v m d k s)
+      (λ (s : v ≡ m). no_worse_refl v m d k s)
       (was v p q)
 
   -- the sources keep their labels
@@ -173,7 +173,7 @@ module _ (n : ℕ) (to : ℕ → ℕ → Bool) (c : ℕ → ℕ → ℕ) (source
       elim (way u q) [
         | stay b i j z o ↦ (o ∙ x.0, before_at (d u) (k u) (e u) (l u) _ _ i j x.1)
         | move b o r i j z f ↦
-            (f, before_at _ _ (e u) (l u) _ _ i j (before_trans _ _ (d u) (k u) _ _ (before_other (d u) (k u) (d m + c m u) (k m + 1) (r x.0)) x.1))
+            (f, before_at _ _ (e u) (l u) _ _ i j (no_worse_trans _ _ (d u) (k u) _ _ (no_worse_other (d u) (k u) (d m + c m u) (k m + 1) (r x.0)) x.1))
       ])
       (λ (w : v ≡ m).
       let z = by_m u q (sym (ap (λ (x : ℕ). to x u) w) ∙ t) in
@@ -188,7 +188,7 @@ module _ (n : ℕ) (to : ℕ → ℕ → Bool) (c : ℕ → ℕ → ℕ) (source
                 ⊎_elim
                 (λ (f : done u ≡ true). (
                   o ∙ held_m u q f,
-                  before_at (d u) (k u) (e u) (l u) _ _ i j (before_trans _ _ (d m) (k m) _ _ (early u q f) (before_more (d m) (k m) (c m u))),
+                  before_at (d u) (k u) (e u) (l u) _ _ i j (no_worse_trans _ _ (d m) (k m) _ _ (early u q f) (before_more (d m) (k m) (c m u))),
                 ))
                 (λ (f : done u ≡ false).
                 let x = not_better (to m u) (done u) (reached u) (no_worse (d u) (k u) (d m + c m u) (k m + 1)) t f b in
@@ -208,7 +208,7 @@ module _ (n : ℕ) (to : ℕ → ℕ → Bool) (c : ℕ → ℕ → ℕ) (source
         | stay b i j z o ↦ before_onto (d u) (k u) (e u) (l u) _ _ i j (least u q (sym o ∙ r) unsettled)
         | move b o g i j z t ↦ before_onto _ _ (e u) (l u) _ _ i j (before_more (d m) (k m) (c m u))
       ] in
-      before_at (d v) (k v) (e v) (l v) _ _ old.0 old.1 (before_trans _ _ (d m) (k m) _ _ x y)
+      before_at (d v) (k v) (e v) (l v) _ _ old.0 old.1 (no_worse_trans _ _ (d m) (k m) _ _ x y)
 
   -- each label comes along an arc from a settled element
   turn_along : (v : ℕ) → v < n → after v ≡ true → 1 < l v →

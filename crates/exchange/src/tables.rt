@@ -46,7 +46,7 @@ fn arcs_from(
     requires ready { Ready file.now n rule (marked set.now) state.now }
     requires below { v < n }
     ensures row { (u : ℕ) → u < n → table n arcs.new v u ≡ arc (allows file.now n rule) (allows file.now n rule) (marked set.now) v u }
-    ensures rest { (i u : ℕ) → i < n → u < n → (i ≢ v) → table n arcs.new i u ≡ table n arcs.old i u }
+    ensures rest { (i u : ℕ) → i < n → u < n → i ≢ v → table n arcs.new i u ≡ table n arcs.old i u }
     ensures asked { result ≡ pick (marked set.now v) (n - size n (marked set.now)) (size n (marked set.now)) }
 {
     let inside = holds(set, v);

@@ -83,8 +83,8 @@ fn merge_town(state: &mut [u32], n: usize, town: usize, new: u32)
     ensures label { label state.new town ≡ new }
     ensures row { (z : ℕ) → z < n → in_row state.new n town z ≡ xor (in_row state.old n town z) (word_row state.old 600 z) }
     ensures work { (z : ℕ) → z < n → word_row state.new 600 z ≡ word_row state.old 600 z }
-    ensures labels { (t : ℕ) → t < 600 → (t ≢ town) → label state.new t ≡ label state.old t }
-    ensures rows { (t z : ℕ) → t < 600 → (t ≢ town) → z < n → in_row state.new n t z ≡ in_row state.old n t z }
+    ensures labels { (t : ℕ) → t < 600 → t ≢ town → label state.new t ≡ label state.old t }
+    ensures rows { (t z : ℕ) → t < 600 → t ≢ town → z < n → in_row state.new n t z ≡ in_row state.old n t z }
 {
     words::xor_row(state, 600, row_at(n, town), (n + 31) / 32);
     state[town] = new;

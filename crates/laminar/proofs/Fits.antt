@@ -170,11 +170,11 @@ counted n s t group (suc m) f each nest =
 -- a set that fits takes an offer that no full group holds
 pub takes : (n : ℕ) (group : ℕ → Set) (most : ℕ → ℕ) (m : ℕ) (s : Set) (x : ℕ) → x < n → s x ≡ false → fits n group most m s ≡ true →
     ((g : ℕ) → g < m → group g x ≡ true → size n (both (group g) s) ≡ most g → ⊥) → fits n group most m (with s x) ≡ true
-takes n group most m s x l e h no-full =
+takes n group most m s x l e h no_full =
     each_fits n group most m (with s x)
     (λ g k. let a = part_with n (group g) s x l e in
     let b = fits_each n group most m s h g k in
-    let c = no-full g k in
+    let c = no_full g k in
     grind arith)
 
 -- an offer that cannot be taken lies in a full group, and every offer of t does so or lies in s

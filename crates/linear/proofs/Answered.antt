@@ -58,9 +58,9 @@ dual_set p l rows xs x v m s few d =
 pub flags_more :
     (f : ℕ → ℕ) (xs : List ℕ) (x v : ℕ) → 65 * x + 64 < length xs → v ≡ f x → ((y : ℕ) → y < x → flag xs y ≡ f y) →
     (y : ℕ) → y < x + 1 → flag (set xs (65 * x + 64) v) y ≡ f y
-flags_more f xs x v in-xs e old y h =
+flags_more f xs x v in_xs e old y h =
     ⊎_elim
-    (λ (q : y ≡ x). ap (λ z. flag (set xs (65 * x + 64) v) z) q ∙ get_or-set_same xs (65 * x + 64) v 0 in-xs ∙ e ∙ ap f (sym q))
+    (λ (q : y ≡ x). ap (λ z. flag (set xs (65 * x + 64) v) z) q ∙ get_or-set_same xs (65 * x + 64) v 0 in_xs ∙ e ∙ ap f (sym q))
     (λ (q : y ≡ x → ⊥). get_or-set_other xs (65 * x + 64) (65 * y + 64) v 0 (λ (r : 65 * y + 64 ≡ 65 * x + 64). q (omega arith)) ∙ old y (omega arith))
     (cases_eq y x)
 
@@ -75,7 +75,7 @@ module _ (file : List ℕ) (n prime long at : ℕ) (well : Well file n prime lon
       ((j : ℕ) → j < long → get_or sum j 0 ≡ rest prime long (number file long at) (functional state) n s (number file long at x) j % prime) →
       q ≤ long → ((j : ℕ) → j < q → get_or sum j 0 ≡ 0) → (q < long → get_or sum q 0 ≡ 0 → ⊥) → eqb q long ≡ span file n prime long at s x
   unfolding rows
-  rest_decides state sum x q d is-rest within zeros found = alike (eqb q long) (span file n prime long at s x) forth back
+  rest_decides state sum x q d is_rest within zeros found = alike (eqb q long) (span file n prime long at s x) forth back
     where
       r : ℕ → ℕ
       r = rest prime long rows (functional state) n s (rows x)
@@ -85,7 +85,7 @@ module _ (file : List ℕ) (n prime long at : ℕ) (well : Well file n prime lon
           let f : q ≡ long = eqb-true q long e in
           span_from file n prime long at well s x
           (rest_spans prime long rows (functional state) n s well.is_prime.0 d (rows x)
-          (λ j h. rest_null prime (r j) (sym (is-rest j h) ∙ zeros j (omega arith))))
+          (λ j h. rest_null prime (r j) (sym (is_rest j h) ∙ zeros j (omega arith))))
 
       back : span file n prime long at s x ≡ true → eqb q long ≡ true
       back h =
@@ -93,7 +93,7 @@ module _ (file : List ℕ) (n prime long at : ℕ) (well : Well file n prime lon
           (⊎_elim (λ (e : q ≡ long). e)
           (λ (ne : q ≡ long → ⊥).
           let low : q < long = omega arith in
-          absurd (found low (is-rest q low ∙ null_rest prime (r q) (prime_pos file n prime long at well)
+          absurd (found low (is_rest q low ∙ null_rest prime (r q) (prime_pos file n prime long at well)
           (spans_rest prime long rows (functional state) n s well.is_prime.0 d (rows x) (span_gives file n prime long at well s x h) q low))))
           (cases_eq q long))
 

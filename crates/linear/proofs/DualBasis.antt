@@ -49,7 +49,7 @@ module _ (p l : ℕ) (rows fs : ℕ → ℕ → ℕ) (m : ℕ) (s : Set) (big : 
       let g = dot_mix l m f t c rows s in
       let r = weight_at m y w s k h in
       let o = weight m w (without s y) in
-      let z : Null p o = weight_null p m w (without s y) (λ i q i-in. null_multiple p (c i) (dot l f (rows i)) (other_null y i k h q i-in)) in
+      let z : Null p o = weight_null p m w (without s y) (λ i q i_in. null_multiple p (c i) (dot l f (rows i)) (other_null y i k h q i_in)) in
       let x : Null p (dot l f t + w y) =
       null_cancel p (dot l f t + w y) o (null_equal p (dot l f t + w y + o) (dot l f (λ j. t j + weight m (λ i. c i * rows i j) s)) (omega arith) e) z in
       null_same p (dot l f t + c y) (dot l f t + w y)

@@ -65,7 +65,7 @@ corrected_out p l t s old g z xs zs b in_s is inv same = rw same (front, λ k h.
 module _
     (p l : ℕ) (rows : ℕ → ℕ → ℕ) (state : List ℕ) (r : ℕ) (s : Set) (prime : Prime p) (small : p ≤ 251)
     (dual : Dual p l rows (functional state) r s) (sum : List ℕ)
-    (is-rest : (j : ℕ) → j < l → get_or sum j 0 ≡ rest p l rows (functional state) r s (rows r) j % p)
+    (is_rest : (j : ℕ) → j < l → get_or sum j 0 ≡ rest p l rows (functional state) r s (rows r) j % p)
   where
     pos : 0 < p
     pos = omega (arith, prime.0)
@@ -75,13 +75,13 @@ module _
     no_column zeros =
         spanned_from p l rows s r (rows r) pos
         (rest_spans p l rows (functional state) r s prime.0 dual (rows r)
-        (λ j h. rest_null p (rest p l rows (functional state) r s (rows r) j) (sym (is-rest j h) ∙ zeros j h)))
+        (λ j h. rest_null p (rest p l rows (functional state) r s (rows r) j) (sym (is_rest j h) ∙ zeros j h)))
 
     -- a row with a column that is not zero is not
     pub a_column : (q : ℕ) → q < l → (get_or sum q 0 ≡ 0 → ⊥) → spanned p l rows s r (rows r) ≡ false
     a_column q low found =
         ⊎_elim
-        (λ y. absurd (found (is-rest q low ∙ null_rest p (rest p l rows (functional state) r s (rows r) q) pos
+        (λ y. absurd (found (is_rest q low ∙ null_rest p (rest p l rows (functional state) r s (rows r) q) pos
         (spans_rest p l rows (functional state) r s prime.0 dual (rows r) (spanned_gives p l rows s r (rows r) y) q low))))
         (λ y. y) (cases_Bool (spanned p l rows s r (rows r)))
 
@@ -92,7 +92,7 @@ module _
         ((y j : ℕ) → y < r → s y ≡ true → j < l → functional middle y j ≡ corrected p l (rows r) state g y j) →
         ((j : ℕ) → j < l → get_or new (65 * r + j) 0 ≡ get_or g (0 + j) 0) → SameBut (65 * r) l middle new →
         Dual p l rows (functional new) (r + 1) s
-    basis_more q scale g middle new low found is-scale few made old copied same =
+    basis_more q scale g middle new low found is_scale few made old copied same =
         rw add-one
         (dual_more p l rows (functional state) r s prime.0 dual q scale (λ j. get_or g j 0) low unit
         (λ j h. modulo (get_or g j 0) (fresh p rows (functional state) r s q scale j) (made j h)) (functional new)
@@ -107,9 +107,9 @@ module _
 
         unit : Same p (scale * u) 1
         unit =
-            let e : get_or sum q 0 ≡ u % p = is-rest q low in
+            let e : get_or sum q 0 ≡ u % p = is_rest q low in
             let f : Same p ((u % p) ^ (p - 2) * u) 1 = inverse p u prime small (λ z. found (e ∙ null_rest p u pos z)) in
-            let g : Same p scale ((u % p) ^ (p - 2)) = modulo scale ((u % p) ^ (p - 2)) (is-scale ∙ ap (λ x. x ^ (p - 2) % p) e) in
+            let g : Same p scale ((u % p) ^ (p - 2)) = modulo scale ((u % p) ^ (p - 2)) (is_scale ∙ ap (λ x. x ^ (p - 2) % p) e) in
             same_trans p (scale * u) (u * scale) 1 (same_from p (scale * u) (u * scale) (omega arith))
             (same_trans p (u * scale) (u * (u % p) ^ (p - 2)) 1 (same_multiple p u scale ((u % p) ^ (p - 2)) g)
             (same_trans p (u * (u % p) ^ (p - 2)) ((u % p) ^ (p - 2) * u) 1 (same_from p (u * (u % p) ^ (p - 2)) ((u % p) ^ (p - 2) * u) (omega arith)) f))

@@ -11,7 +11,7 @@ dot (suc long) f t = f long * t long + dot long f t
 -- each element y of the set, below m, has a functional that is 1 at row y and 0 at the set's other rows
 pub record Dual (p long : ℕ) (rows functionals : ℕ → ℕ → ℕ) (m : ℕ) (s : Set) : Type 0 where
   pub own : (y : ℕ) → y < m → s y ≡ true → dot long (functionals y) (rows y) % p ≡ 1
-  pub other : (y z : ℕ) → y < m → z < m → s y ≡ true → s z ≡ true → (y ≢ z) → dot long (functionals y) (rows z) % p ≡ 0
+  pub other : (y z : ℕ) → y < m → z < m → s y ≡ true → s z ≡ true → y ≢ z → dot long (functionals y) (rows z) % p ≡ 0
 
 -- the rest of a row t: t less the value of each functional times its row, by adding what the value lacks to p
 abbrev pub rest : ℕ → ℕ → (ℕ → ℕ → ℕ) → (ℕ → ℕ → ℕ) → ℕ → Set → (ℕ → ℕ) → ℕ → ℕ

@@ -12,17 +12,17 @@ use Rattle.laminar.proofs.Reading as limits
 use Rattle.linear.proofs.Reading as rows
 use Rattle.linear.specs.declared.Shape.{Shape}
 use Rattle.linear.specs.Reading as linear
-use Rattle.laminar.specs.Limits as limits-spec
-use Rattle.transversal.specs.Volunteers as volunteers-spec
-use Rattle.linear.specs.Rows as rows-spec
+use Rattle.laminar.specs.Limits as limits_spec
+use Rattle.transversal.specs.Volunteers as volunteers_spec
+use Rattle.linear.specs.Rows as rows_spec
 
 -- the header is there, it says this count, and the rule behind it is well formed
 abbrev pub LimitsGood : List ℕ → ℕ → ℕ → ℕ → Type 0
-LimitsGood file n p groups = (p + 1 ≤ length file) × (groups ≡ get_or file p 0) × limits-spec.Well file n groups (p + 1)
+LimitsGood file n p groups = (p + 1 ≤ length file) × (groups ≡ get_or file p 0) × limits_spec.Well file n groups (p + 1)
 
 -- the same of volunteers
 abbrev pub VolunteersGood : List ℕ → ℕ → ℕ → ℕ → Type 0
-VolunteersGood file n p volunteers = (p + 2 ≤ length file) × (volunteers ≡ le2 file p) × volunteers-spec.Well file n volunteers (p + 2)
+VolunteersGood file n p volunteers = (p + 2 ≤ length file) × (volunteers ≡ le2 file p) × volunteers_spec.Well file n volunteers (p + 2)
 
 -- of links
 abbrev pub LinksGood : List ℕ → ℕ → ℕ → ℕ → Type 0
@@ -30,7 +30,7 @@ LinksGood file n p towns = (p + 2 ≤ length file) × (towns ≡ le2 file p) × 
 
 -- of rows
 abbrev pub RowsGood : List ℕ → ℕ → ℕ → Shape → Type 0
-RowsGood file n p shape = (p + 2 ≤ length file) × (shape ≡ linear.shape_at file p) × rows-spec.Well file n shape.prime shape.len (p + 2)
+RowsGood file n p shape = (p + 2 ≤ length file) × (shape ≡ linear.shape_at file p) × rows_spec.Well file n shape.prime shape.len (p + 2)
 
 module _ (file : List ℕ) (n p : ℕ) where
   -- what the reading of limits promises

@@ -53,7 +53,7 @@ pub record Pairs (n : ℕ) (f : Set → Bool) (s : Set) (y x : ℕ → ℕ) (m :
 -- an exchange of y i for another pair's x j goes down: by the first key, or by the second where the first keys are equal
 abbrev pub Falling : (Set → Bool) → Set → (ℕ → ℕ) → (ℕ → ℕ) → ℕ → (ℕ → ℕ) → (ℕ → ℕ) → Type 0
 Falling f s y x m key place =
-    (i j : ℕ) → i < m → j < m → (i ≢ j) → f (with (without s (y i)) (x j)) ≡ true →
+    (i j : ℕ) → i < m → j < m → i ≢ j → f (with (without s (y i)) (x j)) ≡ true →
     (key j < key i) ⊎ ((key j ≡ key i) × (place j < place i))
 
 -- all pairs can be exchanged at once, where no exchange of an earlier y for a later x is allowed
@@ -90,7 +90,7 @@ pub record Tight (n : ℕ) (f : Set → Bool) (a : ℕ → ℕ) (s : Set) (y x :
   pub pairs : Pairs n f s y x m
   pub best : Best n f a s
   pub equal : (i : ℕ) → i < m → a (x i) ≡ a (y i)
-  pub ties : (i j : ℕ) → i < m → j < m → (i ≢ j) → a (x j) ≡ a (y i) →
+  pub ties : (i j : ℕ) → i < m → j < m → i ≢ j → a (x j) ≡ a (y i) →
       f (with (without s (y i)) (x j)) ≡ true → place j < place i
 
 -- what many exchanges make of a best set: an allowed one of a size and a weight, that is best again

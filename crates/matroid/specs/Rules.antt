@@ -8,7 +8,7 @@ use Rattle.laminar.specs.Limits as laminar
 use Rattle.transversal.specs.Volunteers as transversal
 use Rattle.graphic.specs.Links as graphic
 use Rattle.linear.specs.Rows as linear
-use Rattle.linear.specs.Kept as linear-kept
+use Rattle.linear.specs.Kept as linear_kept
 
 -- the rule is well-formed in the file
 abbrev pub Well : List ℕ → ℕ → Rule → Type 0
@@ -40,7 +40,7 @@ abbrev pub Kept : List ℕ → ℕ → Rule → Set → List ℕ → Type 0
 Kept file n (Limits groups at) s state = laminar.Ready file n groups at s state
 Kept file n (Volunteers volunteers at) s state = transversal.Ready file n volunteers at s state
 Kept file n (Links towns at) s state = graphic.Ready file n towns at s state
-Kept file n (Rows prime long at) s state = linear-kept.Ready file n prime long at s state
+Kept file n (Rows prime long at) s state = linear_kept.Ready file n prime long at s state
 
 -- and there is room for it
 abbrev pub Ready : List ℕ → ℕ → Rule → Set → List ℕ → Type 0

@@ -79,12 +79,12 @@ less_outside n s t s2 z p e h =
 core_step : (n : ℕ) (cl : Set → Set) → Closure n cl → (s t : Set) → Within n t (cl s) →
     ((r : Set) → size n (outside r t) < size n (outside s t) → Within n t (cl r) → size n t ≤ size n r) →
     (z : ℕ) → z < n → s z ≡ true → t z ≡ false → size n t ≤ size n s
-core_step n cl c s t h smaller-case z p e d = ⊎_elim other same (look_up n (λ x. t x && not (cl (without s z) x)))
+core_step n cl c s t h smaller_case z p e d = ⊎_elim other same (look_up n (λ x. t x && not (cl (without s z) x)))
   where
     same : ((x : ℕ) → x < n → (t x && not (cl (without s z) x)) ≡ false) → size n t ≤ size n s
     same all =
         let a : size n t ≤ size n (without s z) =
-        smaller-case
+        smaller_case
         (without s z)
         (less_outside n s t (without s z) z p (grind arith) (λ v q i. grind arith))
         (λ v q i. let r : (t v && not (cl (without s z) v)) ≡ false = all v q in grind arith) in
@@ -96,7 +96,7 @@ core_step n cl c s t h smaller-case z p e d = ⊎_elim other same (look_up n (λ
         let f : (without s z x ≡ true → cl (without s z) x ≡ true) = c.extends (without s z) x q in
         let u : s x ≡ false = fresh (s x) (eqb x z) (cl (without s z) x) (λ k. grind arith) j f in
         let a : size n t ≤ size n (with (without s z) x) =
-        smaller-case
+        smaller_case
         (with (without s z) x)
         (less_outside n s t (with (without s z) x) z p (grind arith) (λ v r l. grind arith))
         (λ v r l. c.transitive (with (without s z) x) s (swapped_in n cl c s z x p q j (h x q i)) v r (h v r l)) in

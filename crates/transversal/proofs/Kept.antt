@@ -44,7 +44,7 @@ module _ (file : List ℕ) (n volunteers place : ℕ) (s : Set) (rows : List ℕ
 
   -- a set with no matching is refused
   pub refuses : ((f : ℕ → ℕ) → Tends (can_by rows n (row_words n)) n volunteers s f → ⊥) → false ≡ allows file n volunteers place s
-  refuses no-matching = never (allows file n volunteers place s) (λ e. let a = tends_of s s (λ x h p. p) e in no-matching a.0 a.1)
+  refuses no_matching = never (allows file n volunteers place s) (λ e. let a = tends_of s s (λ x h p. p) e in no_matching a.0 a.1)
 
   -- the rows of offers outside of the set are empty before they are closed
   pub empties : (f : ℕ → ℕ) (started freed : List ℕ) →

@@ -185,7 +185,7 @@ pub(crate) fn match_all(
 ) -> bool
     requires small { (n ≤ 600) × ((volunteers ≤ 600) × ((width ≤ 19) × (n ≤ 32 * width))) }
     requires tables { ((n + 601) * width ≤ length rows.now) × ((width ≤ length set.now) × ((n ≤ length tends.old) × (volunteers ≤ length owner.old))) }
-    requires nobody { (((x : ℕ) → x < n → volunteers ≤ at tends.old x)) × (((v : ℕ) → v < volunteers → n ≤ at owner.old v)) }
+    requires nobody { ((x : ℕ) → x < n → volunteers ≤ at tends.old x) × ((v : ℕ) → v < volunteers → n ≤ at owner.old v) }
     ensures pairs { result ≡ true → Paired (can_by rows.now n width) n volunteers (at tends.new) (at owner.new) }
     ensures all { result ≡ true → (u : ℕ) → u < n → matched volunteers (at tends.new) u ≡ marked set.now u }
     ensures refused { result ≡ false → (f : ℕ → ℕ) → Tends (can_by rows.now n width) n volunteers (marked set.now) f → ⊥ }

@@ -56,7 +56,7 @@ pub(crate) fn start_free(
 )
     requires { (n ≤ 32 * width) × ((volunteers ≤ 600) × ((volunteers ≤ length owner.now) × ((n + 601) * width ≤ length state.old))) }
     ensures free { (x : ℕ) → x < n → in_row state.new width n x ≡ start_free (can_by state.old n width) n volunteers (at owner.now) x }
-    ensures rest { (k x : ℕ) → (k ≢ n) → x < n → in_row state.new width k x ≡ in_row state.old width k x }
+    ensures rest { (k x : ℕ) → k ≢ n → x < n → in_row state.new width k x ≡ in_row state.old width k x }
 {
     clear_row(state, n * width, width);
     for v in 0..volunteers {

@@ -3,7 +3,7 @@ use Rattle.std.proofs.Common.{◌≡◌, ℕ, ◌+◌, ◌-◌, ◌<◌, ◌≤�
 use Rattle.std.proofs.lemmas.Bool.{cases_Bool}
 use Rattle.sets.specs.Matroid.{pick, Set, without, with}
 use Rattle.exchange.specs.Round.{top, State, Labels, End, lost}
-use Rattle.exchange.proofs.LabelPaths.{before_tells}
+use Rattle.exchange.proofs.LabelPaths.{no_worse_tells}
 use Rattle.weighted.specs.Next.{raised}
 
 -- what a reached element and one that is not reached get
@@ -43,7 +43,7 @@ module _ (n : ℕ) (f g : Set → Bool) (w a : ℕ → ℕ) (loss : ℕ) (s reac
       ⊎_elim
       (λ (r : reached y ≡ true).
       let p = labels.into y x hy hx held out r arc in
-      let c : d x + a x ≤ d y + a y = (before_tells (d x + a x) (k x) (d y + a y) (k y + 1) p.1).0 in
+      let c : d x + a x ≤ d y + a y = (no_worse_tells (d x + a x) (k x) (d y + a y) (k y + 1) p.1).0 in
       let ex : raised reached a d m x ≡ a x + min (d x) m = raised_reached reached a d m x p.0 in
       let ey : raised reached a d m y ≡ a y + min (d y) m = raised_reached reached a d m y r in
       omega arith)
@@ -61,7 +61,7 @@ module _ (n : ℕ) (f g : Set → Bool) (w a : ℕ → ℕ) (loss : ℕ) (s reac
       ⊎_elim
       (λ (r : reached x ≡ true).
       let p = labels.out x y hx hy out held r arc in
-      let c : d y + (w x + a y) ≤ d x + (w y + a x) = (before_tells (d y + (w x + a y)) (k y) (d x + (w y + a x)) (k x + 1) p.1).0 in
+      let c : d y + (w x + a y) ≤ d x + (w y + a x) = (no_worse_tells (d y + (w x + a y)) (k y) (d x + (w y + a x)) (k x + 1) p.1).0 in
       let ex : raised reached a d m x ≡ a x + min (d x) m = raised_reached reached a d m x r in
       let ey : raised reached a d m y ≡ a y + min (d y) m = raised_reached reached a d m y p.0 in
       omega arith)
@@ -87,7 +87,7 @@ module _ (n : ℕ) (f g : Set → Bool) (w a : ℕ → ℕ) (loss : ℕ) (s reac
       let l : w x ≤ top = light x h in
       ⊎_elim
       (λ (r : reached x ≡ true).
-      let c : lost w a d t ≤ d x + a x + (top - w x) = (before_tells (lost w a d t) (k t) (lost w a d x) (k x) (end.least x h out r sink)).0 in
+      let c : lost w a d t ≤ d x + a x + (top - w x) = (no_worse_tells (lost w a d t) (k t) (lost w a d x) (k x) (end.least x h out r sink)).0 in
       let ex : raised reached a d m x ≡ a x + min (d x) m = raised_reached reached a d m x r in
       sums (w x) (lost w a d t) top (raised reached a d m x) (a x) (d x) loss old l c ex)
       (λ (r : reached x ≡ false).

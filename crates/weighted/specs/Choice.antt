@@ -1,8 +1,7 @@
 -- A choice for every size: where it is written in the lent memory, and what it shows. Assumes nothing: these are definitions.
 -- n is the number of offers, f and g the tests of the two rules, w the weights.
 use Rattle.std.specs.Prelude.{◌≡◌, ℕ, zero, suc, ◌+◌, ◌-◌, ◌*◌, ◌<◌, ◌≤◌, Bool, true, cond, List, ℤ, Ok, Err, Result, nat_lt, slice_index}
-use Rattle.std.specs.Int.{w64}
-use Rattle.std.proofs.Common.{to_z}
+use Rattle.std.specs.Int.{w64, cast_signed}
 use Rattle.sets.specs.declared.refusal.Refusal.{Refusal}
 use Rattle.sets.specs.declared.refusal.Refusal.TheVariants.{Short}
 use Rattle.sets.specs.declared.refusal.Lent.TheVariants.{Sets, Numbers, Work}
@@ -45,10 +44,10 @@ sized_set n sets j = row sets ((j + 2) * row_bytes n)
 
 -- the two parts of the weight of offer x at size j + 1, signed numbers of 64 bits
 abbrev pub first_part : ℕ → List ℕ → ℕ → ℕ → ℤ
-first_part n numbers j x = to_z w64 (slice_index numbers (2 * (j * n + x)))
+first_part n numbers j x = cast_signed w64 (slice_index numbers (2 * (j * n + x)))
 
 abbrev pub second_part : ℕ → List ℕ → ℕ → ℕ → ℤ
-second_part n numbers j x = to_z w64 (slice_index numbers (2 * (j * n + x) + 1))
+second_part n numbers j x = cast_signed w64 (slice_index numbers (2 * (j * n + x) + 1))
 
 -- what the set of a size weighs; the empty set weighs nothing
 abbrev pub weight_of_size : ℕ → (ℕ → ℕ) → List ℕ → ℕ → ℕ

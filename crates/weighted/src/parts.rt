@@ -5,8 +5,7 @@ ghost use Rattle.sets.specs.Bits.{marked, row_words, row_bytes, le4, SameBut};
 ghost use Rattle.weighted.specs.Choice.{largest_set, dual_set, sized_set, first_part, second_part};
 ghost use Rattle.weighted.specs.Next.{raised};
 ghost use Rattle.sets.specs.Matroid.{pick};
-ghost use Rattle.std.specs.Int.{w64};
-ghost use Rattle.std.proofs.Common.{to_z};
+ghost use Rattle.std.specs.Int.{w64, cast_signed};
 
 use sets::numbers::read_u32;
 use sets::words::{contains, store_row};
@@ -51,7 +50,7 @@ pub fn raise(n: usize, reached: &[u32], costs: &[u32], all: u32, potentials: &mu
 
 // What is left of a weight for its second part, signed, in the 64 bits of two's complement.
 fn rest_of(weight: u32, first: u32) -> u64
-    ensures { to_z w64 result ≡ pos weight -ℤ pos first }
+    ensures { cast_signed w64 result ≡ pos weight -ℤ pos first }
 {
     (weight as i64 - first as i64).cast_unsigned()
 }
@@ -97,7 +96,7 @@ pub fn write_size(
 pub fn write_largest(n: usize, set: &[u32], dual: &[u32], sets: &mut [u8])
     requires { (n ≤ 600) × ((row_words n ≤ length set.now) × ((row_words n ≤ length dual.now) × (2 * row_bytes n ≤ length sets.old))) }
     ensures largest { (x : ℕ) → x < n → largest_set sets.new x ≡ marked set.now x }
-    ensures duals { (x : ℕ) → x < n → dual_set n sets.new x ≡ marked «dual».now x }
+    ensures duals { (x : ℕ) → x < n → dual_set n sets.new x ≡ marked dual.now x }
     ensures others { SameBut 0 (2 * row_bytes n) sets.old sets.new }
 {
     store_row(set, 0, n, sets, 0);

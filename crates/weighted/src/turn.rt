@@ -128,7 +128,7 @@ pub fn all_rounds(
     requires room { (sets_length n ≤ length sets.old) × (numbers_length n ≤ length numbers.old) }
     requires well { (Well file.now n first) × (Well file.now n second) }
     requires light { (x : ℕ) → x < n → at weights.now x ≤ top }
-    requires none { (((x : ℕ) → x < n → marked set.old x ≡ false)) × (((x : ℕ) → x < n → at potentials.old x ≡ 0)) }
+    requires none { ((x : ℕ) → x < n → marked set.old x ≡ false) × ((x : ℕ) → x < n → at potentials.old x ≡ 0) }
     ensures chosen { Chosen n (allows file.now n first) (allows file.now n second) (at weights.now) sets.new numbers.new result.size }
     ensures counts { (result.rounds ≡ result.size) × (result.calls ≡ all_calls n result.size) }
     ensures rest { (p : ℕ) → 2 * (result.size * n) ≤ p → slice_index numbers.new p ≡ slice_index numbers.old p }
