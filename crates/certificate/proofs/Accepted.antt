@@ -9,7 +9,8 @@ use Rattle.matroid.proofs.RuleLaws.{rule_matroid}
 use Rattle.weighted.specs.Choice.{all_calls, Chosen, Choice}
 use Rattle.certificate.specs.Accepted.{Certified, Proven, FirstRefusal}
 use Rattle.certificate.specs.Layout.{row_at, count}
-use Rattle.certificate.specs.Validity.{Valid, work_length, by_first, by_second}
+use Rattle.matroid.specs.TwoRules.{by_first, by_second}
+use Rattle.certificate.specs.Validity.{Valid, work_length}
 use Rattle.certificate.specs.Writing.{Written}
 use Rattle.certificate.proofs.Complete.{choices_are_valid}
 use Rattle.certificate.proofs.RowsWritten.{written_along}

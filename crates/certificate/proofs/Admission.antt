@@ -1,6 +1,6 @@
 -- What is admitted before a choice, and what that says of the lent memory.
-use Rattle.std.proofs.Common.{◌≡◌, ℕ, ◌+◌, ◌*◌, ◌<◌, ◌≤◌, Bool, true, false, cond, ltb, List, Ok, Err, Result, sym, refl, ap, ◌∙◌, mul-le-mul_right, arith}
-use Rattle.std.proofs.lemmas.Bool.{lt-ltb, le-ltb, ltb-false}
+use Rattle.std.proofs.Common.{◌≡◌, ℕ, ◌+◌, ◌*◌, ◌≤◌, Bool, true, false, cond, ltb, List, Ok, Err, Result, sym, refl, ap, ◌∙◌, mul-le-mul_right, arith}
+use Rattle.std.proofs.lemmas.Bool.{le-ltb, ltb-false}
 use Rattle.sets.specs.Bits.{row_bytes, row_words}
 use Rattle.sets.specs.declared.refusal.Refusal.{Refusal}
 use Rattle.sets.specs.declared.refusal.Refusal.TheVariants.{Short}
@@ -38,18 +38,6 @@ when_admitted file sets numbers work problem other e h =
     (cond (ltb work (choice.work_length problem.n)) (Err (Short Work)) (Ok problem)) other b.1 in
     let d = passed (ltb work (choice.work_length problem.n)) (Short Work) (Ok problem) other c.1 in
     (sym (one_problem problem other d.1), ltb-false sets (sets_length problem.n) b.0, ltb-false numbers (numbers_length problem.n) c.0, ltb-false work (choice.work_length problem.n) d.0)
-
--- a file that is refused
-pub file_refused : (file : List ℕ) (sets numbers sheet work : ℕ) (e : Refusal) → read file ≡ Err e → all_admitted file sets numbers sheet work ≡ Err e
-file_refused file sets numbers sheet work e h =
-    ap (λ (r : Result Problem Refusal). and_then r (λ problem. cond (ltb sheet (longest problem.n)) (Err (Short Sets)) (admitted file sets numbers work))) h
-
--- a certificate that is lent too short
-pub sheet_refused : (file : List ℕ) (sets numbers sheet work : ℕ) (problem : Problem) → read file ≡ Ok problem → sheet < longest problem.n →
-    all_admitted file sets numbers sheet work ≡ Err (Short Sets)
-sheet_refused file sets numbers sheet work problem h l =
-    ap (λ (r : Result Problem Refusal). and_then r (λ problem. cond (ltb sheet (longest problem.n)) (Err (Short Sets)) (admitted file sets numbers work))) h
-    ∙ ap (λ (v : Bool). cond v (Err (Short Sets)) (admitted file sets numbers work)) (lt-ltb sheet (longest problem.n) l)
 
 -- else the answer is that of choosing
 pub sheet_admitted : (file : List ℕ) (sets numbers sheet work : ℕ) (problem : Problem) → read file ≡ Ok problem → longest problem.n ≤ sheet →

@@ -1,10 +1,8 @@
 -- The first fault of all, and what no fault at all means.
-use Rattle.std.proofs.Common.{◌≡◌, ℕ, ◌+◌, ◌*◌, ◌<◌, ◌≤◌, Bool, List, refl, subst, inl, inr, ⊎_elim, arith}
+use Rattle.std.proofs.Common.{◌≡◌, ℕ, ◌+◌, ◌*◌, ◌<◌, ◌≤◌, Bool, List, subst, inl, inr, ⊎_elim, arith}
 use Rattle.std.proofs.lemmas.Bool.{cases_lt, cases_eq}
 use Rattle.sets.specs.Matroid.{Set}
 use Rattle.sets.specs.declared.refusal.Refusal.{Refusal}
-use Rattle.sets.specs.declared.refusal.Refusal.TheVariants.{Short}
-use Rattle.sets.specs.declared.refusal.Lent.TheVariants.{Work}
 use Rattle.certificate.specs.Layout.{count, largest_set, dual_set}
 use Rattle.certificate.specs.Validity.{work_length}
 use Rattle.certificate.specs.Faults.{ByteFault, cut, longer, SetFault, wrong_size, first_refuses, second_refuses, DualFault, SizedFault, NumbersFault, SplitFault, Clear, Earliest, AllRight, SomeWrong, PartsRight, PartsWrong, Stage, turn, Fault, FirstFault}
@@ -14,18 +12,6 @@ module _ (n : ℕ) (f g : Set → Bool) (w : ℕ → ℕ) (sheet : List ℕ) (wo
   -- a fault in the bytes is the first of all
   pub first_bytes : (e : Refusal) → Earliest (ByteFault n sheet) e → FirstFault (Fault n f g w sheet words) e
   first_bytes e h = (fault.bytes, h, λ b q d z. omega arith)
-
-  -- behind clean bytes too little memory is
-  pub first_memory : Clear (ByteFault n sheet) → words < work_length n → FirstFault (Fault n f g w sheet words) (Short Work)
-  first_memory clear l = (fault.memory, (0, (l, refl, refl), λ q d z. omega arith), later)
-    where
-      later : (b : Stage) (q : ℕ) (d : Refusal) → Fault n f g w sheet words b q d → 1 ≤ turn b
-      later fault.bytes q d z = absurd (clear q d z)
-      later fault.memory q d z = omega arith
-      later fault.largest q d z = omega arith
-      later fault.dual q d z = omega arith
-      later (fault.sized k) q d z = omega arith
-      later (fault.numbers k) q d z = omega arith
 
   -- with enough memory the first fault of the parts is
   module _ (clear : Clear (ByteFault n sheet)) (enough : work_length n ≤ words) where

@@ -1,15 +1,9 @@
 -- When the numbers of an offer are in fault.
-use Rattle.std.proofs.Common.{◌≡◌, ℕ, Bool, true, false, ℤ, pos, ◌+ℤ◌, ◌<ℤ◌, Decides, refl, subst, inr, ⊎_elim, arith}
-use lib.Signed.{lt_z}
-use borrow.Author.Differences.{ints}
+use Rattle.std.proofs.Common.{◌≡◌, ℕ, Bool, true, false, ℤ, pos, ◌+ℤ◌, Decides, refl, inr, ⊎_elim, arith}
 use Rattle.std.proofs.lemmas.Bool.{both_ways, false≢true}
 use Rattle.sets.specs.Matroid.{Set, with, without, Matroid}
 use Rattle.sets.proofs.MatroidLaws.{allowed_within}
 use Rattle.certificate.specs.Faults.{Outdoes, Outbids, Misjudged, unequal, first, second}
-
--- a test of order that failed
-pub not_less : (a b c d : ℤ) → lt_z a b ≡ false → a ≡ c → b ≡ d → c <ℤ d → ⊥
-not_less a b c d h p q l = let k : lt_z c d ≡ false = subst (λ (z : ℤ). lt_z z d ≡ false) p (subst (λ (z : ℤ). lt_z a z ≡ false) q h) in grind (arith, ints)
 
 -- what can be added can come for any chosen one, so to outbid is to outdo
 pub outbids_outdoes : (n : ℕ) (f : Set → Bool) (p : ℕ → ℤ) (s : Set) (x : ℕ) → Matroid n f → Outbids n f p s x → Outdoes n f p s x
@@ -43,11 +37,7 @@ module _ (n : ℕ) (f g : Set → Bool) (w : ℕ → ℕ) (p q : ℕ → ℤ) (s
   pub judged_chosen : s x ≡ true → p x +ℤ q x ≡ pos (w x) → Decides false (Misjudged n f g w p q s x)
   judged_chosen i e = (λ h. absurd (false≢true h), λ m. absurd (chosen_right i e m))
 
-  -- an offer that outdoes a chosen one by the first rule
-  pub judged_first : s x ≡ false → Outdoes n f p s x → Decides true (Misjudged n f g w p q s x)
-  judged_first o b = (λ _. first o (outdoes_outbids n f p s x b), λ _. refl)
-
-  -- and where it does not, the second rule decides
+  -- where an offer does not outdo a chosen one by the first rule, the second decides
   left_second : Matroid n f → Matroid n g → p x +ℤ q x ≡ pos (w x) → (Outdoes n f p s x → ⊥) → Misjudged n f g w p q s x → Outdoes n g q s x
   left_second mf mg e no_first (unequal h) = absurd (h e)
   left_second mf mg e no_first (first o b) = absurd (no_first (outbids_outdoes n f p s x mf b))
@@ -58,7 +48,3 @@ module _ (n : ℕ) (f g : Set → Bool) (w : ℕ → ℕ) (p q : ℕ → ℤ) (s
       Decides r (Outdoes n g q s x) → Decides r (Misjudged n f g w p q s x)
   judged_second mf mg o e no_first r d =
       (λ h. second o (outdoes_outbids n g q s x (d.0 h)), λ m. d.1 (left_second mf mg e no_first m))
-
--- and one that held
-pub less : (a b c d : ℤ) → lt_z a b ≡ true → a ≡ c → b ≡ d → c <ℤ d
-less a b c d h p q = let k : lt_z c d ≡ true = subst (λ (z : ℤ). lt_z z d ≡ true) p (subst (λ (z : ℤ). lt_z a z ≡ true) q h) in grind (arith, ints)

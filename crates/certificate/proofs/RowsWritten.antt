@@ -1,6 +1,7 @@
 -- The bytes of a certificate, written row by row.
-use Rattle.std.proofs.Common.{◌≡◌, ℕ, ◌+◌, ◌-◌, ◌*◌, ◌/◌, ◌%◌, ◌<◌, ◌≤◌, ◌&&◌, ltb, List, get_or, sym, ap, ◌∙◌, subst, inl, inr, ⊎_elim, mul-le-mul_right, add-mul, arith}
+use Rattle.std.proofs.Common.{◌≡◌, ℕ, ◌+◌, ◌-◌, ◌*◌, ◌/◌, ◌%◌, ◌<◌, ◌≤◌, ◌&&◌, ltb, List, length, get_or, take, drop, length-take, length-drop, sym, ap, ◌∙◌, subst, inl, inr, ⊎_elim, mul-le-mul_right, add-mul, arith}
 use Rattle.std.proofs.lemmas.Bool.{cases_lt}
+use Rattle.std.proofs.lemmas.List.{get_or-take, get_or-drop}
 use Rattle.sets.specs.Bits.{row, row_bytes, le2, le4, le8, SameBut}
 use Rattle.sets.proofs.Masks.{bit}
 use Rattle.sets.proofs.Stretches.{row_is}
@@ -79,11 +80,6 @@ written_along n sets numbers old new rows h w =
     ends : (i : ℕ) → 2 ≤ i → i < rows → row_at n i + row_bytes n + 16 * n ≤ row_at n rows
     ends i t l = let a = next_row n i t in let b = rows_ordered n (i + 1) rows (omega arith) in omega arith
 
--- nothing is written yet
-pub written_none : (n : ℕ) (sets numbers sheet : List ℕ) → Written n sets numbers sheet 0
-written_none n sets numbers sheet =
-    record { bits = λ i l. absurd (let z : i < 0 = l in omega arith); parts = λ i t l. absurd (let z : i < 0 = l in omega arith) }
-
 -- one row more is written
 pub written_more : (n : ℕ) (sets numbers old new : List ℕ) (i : ℕ) → Written n sets numbers old i → RowWritten n sets new i →
     (2 ≤ i → NumbersWritten n numbers new i) → OnlyRow n i old new → Written n sets numbers new (i + 1)
@@ -103,10 +99,6 @@ pub behind_more : (n : ℕ) (first old new : List ℕ) (i : ℕ) → ((p : ℕ) 
     (p : ℕ) → row_at n (i + 1) ≤ p → get_or new p 0 ≡ get_or first p 0
 behind_more n first old new i h o p l = let a = rows_ordered n i (i + 1) (omega arith) in (o p).1 l ∙ h p (omega arith)
 
--- a row with no numbers behind it
-pub row_only : (n i : ℕ) (old new : List ℕ) → SameBut (row_at n i) (row_bytes n) old new → OnlyRow n i old new
-row_only n i old new h p = (λ l. h p (inl l), λ l. let a = row_apart n i (i + 1) (omega arith) in h p (inr (omega arith)))
-
 -- a row and the numbers behind it
 pub row_and_numbers : (n i : ℕ) (old mid new : List ℕ) → 2 ≤ i → SameBut (row_at n i) (row_bytes n) old mid →
     SameBut (row_at n i + row_bytes n) (8 * (2 * n)) mid new → OnlyRow n i old new
@@ -122,10 +114,6 @@ pub row_left : (n i : ℕ) (sets mid new : List ℕ) → RowWritten n sets mid i
 row_left n i sets mid new w k =
     row_stays n (row_at n i + row_bytes n) sets mid new i (omega arith) (λ p l. k p (inl l)) w
 
--- a row of the sets and of the certificate, and the numbers behind it, are within what is lent
-pub sets_within : (n i m : ℕ) → (i + 1) * row_bytes n ≤ m → i * row_bytes n + row_bytes n ≤ m
-sets_within n i m h = let a = one_more i (row_bytes n) in omega arith
-
 -- the numbers of row i end where those of the next begin
 pub numbers_within : (n i m : ℕ) → 2 ≤ i → 2 * ((i - 1) * n) ≤ m → 2 * ((i - 2) * n) + 2 * n ≤ m
 numbers_within n i m t h =
@@ -134,26 +122,36 @@ numbers_within n i m t h =
     let d : (i - 2 + 1) * n ≡ (i - 1) * n = ap (λ (v : ℕ). v * n) e in
     omega arith
 
--- a row at its place with the numbers behind it: the row, the numbers, and all else
-pub block_written : (n i at : ℕ) (sets numbers old mid new : List ℕ) → at ≡ row_at n i → 2 ≤ i →
-    ((j : ℕ) → j < 8 * row_bytes n → row mid at j ≡ (ltb j n && row sets (i * row_bytes n) j)) → SameBut at (row_bytes n) old mid →
-    ((x : ℕ) → x < 2 * n → le8 new (at + row_bytes n + 8 * x) ≡ get_or numbers (2 * ((i - 2) * n) + x) 0) →
-    SameBut (at + row_bytes n) (8 * (2 * n)) mid new →
-    RowWritten n sets new i × NumbersWritten n numbers new i × OnlyRow n i old new
-block_written n i at sets numbers old mid new e t a b c d =
-    let a' : RowWritten n sets mid i =
-    subst (λ (z : ℕ). (j : ℕ) → j < 8 * row_bytes n → row mid z j ≡ (ltb j n && row sets (i * row_bytes n) j)) e a in
-    let b' : SameBut (row_at n i) (row_bytes n) old mid = subst (λ (z : ℕ). SameBut z (row_bytes n) old mid) e b in
-    let c' : NumbersWritten n numbers new i =
-    subst (λ (z : ℕ). (x : ℕ) → x < 2 * n → le8 new (z + row_bytes n + 8 * x) ≡ get_or numbers (2 * ((i - 2) * n) + x) 0) e c in
-    let d' : SameBut (row_at n i + row_bytes n) (8 * (2 * n)) mid new = subst (λ (z : ℕ). SameBut (z + row_bytes n) (8 * (2 * n)) mid new) e d in
-    (row_left n i sets mid new a' d', c', row_and_numbers n i old mid new t b' d')
+-- the numbers of row i among all
+abbrev pub numbers_of : ℕ → ℕ → List ℕ → List ℕ
+numbers_of n i numbers = take (2 * ((i - 2) * n) + 2 * n - 2 * ((i - 2) * n)) (drop (2 * ((i - 2) * n)) numbers)
 
--- what the row needs of the lent bytes and numbers, of those for all rows
-pub row_fits : (n i size sets numbers sheet : ℕ) → i < size + 2 → (size + 2) * row_bytes n ≤ sets → 2 * (size * n) ≤ numbers → row_at n (size + 2) ≤ sheet →
-    ((i + 1) * row_bytes n ≤ sets) × (2 * ((i - 1) * n) ≤ numbers) × (row_at n (i + 1) ≤ sheet)
-row_fits n i size sets numbers sheet l a b c =
-    let d : (i + 1) * row_bytes n ≤ (size + 2) * row_bytes n = mul-le-mul_right (row_bytes n) (let s : i + 1 ≤ size + 2 = omega arith in s) in
-    let e : (i - 1) * n ≤ size * n = mul-le-mul_right n (let s : i - 1 ≤ size = omega arith in s) in
-    let f = rows_ordered n (i + 1) (size + 2) (omega arith) in
-    (omega arith, omega arith, omega arith)
+-- how many they are
+how_many : (n i : ℕ) (numbers : List ℕ) → 2 * ((i - 2) * n) + 2 * n ≤ length numbers → length (numbers_of n i numbers) ≡ 2 * n
+how_many n i numbers h = simp (length-take, length-drop) (omega arith)
+
+-- each of them
+each_of : (n i : ℕ) (numbers : List ℕ) (x : ℕ) → x < 2 * n → get_or (numbers_of n i numbers) x 0 ≡ get_or numbers (2 * ((i - 2) * n) + x) 0
+each_of n i numbers x l =
+    get_or-take (2 * ((i - 2) * n) + 2 * n - 2 * ((i - 2) * n)) (drop (2 * ((i - 2) * n)) numbers) x 0 (omega arith)
+    ∙ get_or-drop (2 * ((i - 2) * n)) numbers x 0
+
+-- a row at its place with the numbers behind it: the row, the numbers, and all else
+pub block_written : (n i at len : ℕ) (sets numbers old mid new : List ℕ) → at ≡ row_at n i → len ≡ row_bytes n → 2 ≤ i →
+    2 * ((i - 2) * n) + 2 * n ≤ length numbers →
+    ((j : ℕ) → j < 8 * row_bytes n → row mid at j ≡ (ltb j n && row sets (i * len) j)) → SameBut at (row_bytes n) old mid →
+    ((x : ℕ) → x < length (numbers_of n i numbers) → le8 new (at + len + 8 * x) ≡ get_or (numbers_of n i numbers) x 0) →
+    SameBut (at + len) (8 * length (numbers_of n i numbers)) mid new →
+    RowWritten n sets new i × NumbersWritten n numbers new i × OnlyRow n i old new
+block_written n i at len sets numbers old mid new e k t u a b c d =
+    let a' : RowWritten n sets mid i =
+    subst (λ (z : ℕ). (j : ℕ) → j < 8 * row_bytes n → row mid z j ≡ (ltb j n && row sets (i * row_bytes n) j)) e
+    (subst (λ (z : ℕ). (j : ℕ) → j < 8 * row_bytes n → row mid at j ≡ (ltb j n && row sets (i * z) j)) k a) in
+    let b' : SameBut (row_at n i) (row_bytes n) old mid = subst (λ (z : ℕ). SameBut z (row_bytes n) old mid) e b in
+    let m : at + len ≡ row_at n i + row_bytes n = omega arith in
+    let c' : NumbersWritten n numbers new i =
+    subst (λ (z : ℕ). (x : ℕ) → x < 2 * n → le8 new (z + 8 * x) ≡ get_or numbers (2 * ((i - 2) * n) + x) 0) m
+    (λ x l. c x (omega (arith, how_many n i numbers u)) ∙ each_of n i numbers x l) in
+    let d' : SameBut (row_at n i + row_bytes n) (8 * (2 * n)) mid new =
+    subst (λ (z : ℕ). SameBut z (8 * (2 * n)) mid new) m (subst (λ (z : ℕ). SameBut (at + len) (8 * z) mid new) (how_many n i numbers u) d) in
+    (row_left n i sets mid new a' d', c', row_and_numbers n i old mid new t b' d')

@@ -7,6 +7,7 @@ use Rattle.sets.proofs.FiniteSets.{size_same}
 use Rattle.sets.proofs.MatroidLaws.{allowed_same}
 use Rattle.sets.specs.declared.refusal.Refusal.{Refusal}
 use Rattle.sets.specs.declared.refusal.Refusal.TheVariants.{Refused}
+use Rattle.sets.specs.declared.refusal.Which.TheVariants.{First, Second}
 use Rattle.certificate.specs.Faults.{SetFault, wrong_size, first_refuses, second_refuses, Earliest, Clear}
 
 -- an offer in the first row of words
@@ -25,21 +26,21 @@ pub size_loaded : (n : ℕ) (words bytes : List ℕ) (at : ℕ) →
 size_loaded n words bytes at h =
     size_same n (word_row words 0) (row bytes at) (λ v l. at_start words v ∙ loaded_offer n words bytes at h v l)
 
-pub allowed_loaded : (n : ℕ) (f : Set → Bool) (words bytes : List ℕ) (at : ℕ) → Matroid n f →
-    ((j : ℕ) → j < 32 * row_words n → word_row words 0 j ≡ (ltb j n && row bytes at j)) → f (marked words) ≡ f (row bytes at)
-allowed_loaded n f words bytes at m h = allowed_same m (marked words) (row bytes at) (loaded_offer n words bytes at h)
+pub allowed_loaded : (n : ℕ) (f : Set → Bool) (words bytes : List ℕ) (at : ℕ) (r b : Bool) → Matroid n f →
+    ((j : ℕ) → j < 32 * row_words n → word_row words 0 j ≡ (ltb j n && row bytes at j)) → r ≡ f (marked words) → r ≡ b → f (row bytes at) ≡ b
+allowed_loaded n f words bytes at r b m h e d = sym (allowed_same m (marked words) (row bytes at) (loaded_offer n words bytes at h)) ∙ sym e ∙ d
 
 module _ (n : ℕ) (f g : Set → Bool) (k : ℕ) (s : Set) where
   -- a set of another size is refused at place 0
-  pub by_size : (size n s ≡ k → ⊥) → Earliest (SetFault n f g k s) (Refused k false)
+  pub by_size : (size n s ≡ k → ⊥) → Earliest (SetFault n f g k s) (Refused k First)
   by_size h = (0, wrong_size h, λ q d _. omega arith)
 
   -- so is one that the first rule refuses
-  pub by_first_rule : f s ≡ false → Earliest (SetFault n f g k s) (Refused k false)
+  pub by_first_rule : f s ≡ false → Earliest (SetFault n f g k s) (Refused k First)
   by_first_rule h = (0, first_refuses h, λ q d _. omega arith)
 
   -- one that the second rule refuses, and nothing else does, is refused at place 1
-  pub by_second_rule : size n s ≡ k → f s ≡ true → g s ≡ false → Earliest (SetFault n f g k s) (Refused k true)
+  pub by_second_rule : size n s ≡ k → f s ≡ true → g s ≡ false → Earliest (SetFault n f g k s) (Refused k Second)
   by_second_rule c e h = (1, second_refuses h, later)
     where
       later : (q : ℕ) (d : Refusal) → SetFault n f g k s q d → 1 ≤ q

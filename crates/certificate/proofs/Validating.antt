@@ -8,6 +8,7 @@ use Rattle.sets.specs.Bits.{row, row_bytes}
 use Rattle.sets.specs.Matroid.{Set, size, both, outside, with}
 use Rattle.sets.specs.declared.refusal.Refusal.{Refusal}
 use Rattle.sets.specs.declared.refusal.Refusal.TheVariants.{Length, Range, Refused, Split}
+use Rattle.sets.specs.declared.refusal.Which.TheVariants.{First, Second}
 use Rattle.sets.specs.declared.refusal.Refusal.TheVariants as refusal
 use Rattle.sets.specs.declared.refusal.Source.TheVariants.{Certificate}
 use Rattle.matroid.specs.Optimal.{Dual, SignedSplit}
@@ -65,8 +66,8 @@ module _ (n : ℕ) (f g : Set → Bool) (w : ℕ → ℕ) (sheet : List ℕ) whe
       let u = dual_set n sheet in
       let c = count n sheet in
       record {
-        first = not_refused (f s) (λ e. h 0 (Refused c false) (first_refuses e));
-        second = not_refused (g s) (λ e. h 1 (Refused c true) (second_refuses e));
+        first = not_refused (f s) (λ e. h 0 (Refused c First) (first_refuses e));
+        second = not_refused (g s) (λ e. h 1 (Refused c Second) (second_refuses e));
         full_in = λ x l i o. not_allowed (f (with (both s u) x)) (λ e. k x (refusal.Dual x) (l, refl, within i o e));
         full_out = λ x l i o. not_allowed (g (with (outside s u) x)) (λ e. k x (refusal.Dual x) (l, refl, beyond i o e));
       }
@@ -76,7 +77,7 @@ module _ (n : ℕ) (f g : Set → Bool) (w : ℕ → ℕ) (sheet : List ℕ) whe
   size_shown k a b h =
       ⊎_elim
       (λ (e : size n (sized_set n sheet k) ≡ k). e)
-      (λ (e : size n (sized_set n sheet k) ≡ k → ⊥). absurd (h 0 (Refused k false) (a, b, wrong_size e)))
+      (λ (e : size n (sized_set n sheet k) ≡ k → ⊥). absurd (h 0 (Refused k First) (a, b, wrong_size e)))
       (cases_eq (size n (sized_set n sheet k)) k)
 
   -- the numbers of each size show what they should
@@ -87,8 +88,8 @@ module _ (n : ℕ) (f g : Set → Bool) (w : ℕ → ℕ) (sheet : List ℕ) whe
       let p = first_part n sheet k in
       let q = second_part n sheet k in
       record {
-        first = not_refused (f s) (λ e. h 0 (Refused k false) (a, b, first_refuses e));
-        second = not_refused (g s) (λ e. h 1 (Refused k true) (a, b, second_refuses e));
+        first = not_refused (f s) (λ e. h 0 (Refused k First) (a, b, first_refuses e));
+        second = not_refused (g s) (λ e. h 1 (Refused k Second) (a, b, second_refuses e));
         parts = λ x l. equal_numbers (p x +ℤ q x) (pos (w x)) (λ e. z x (Split k x) (a, b, (l, refl, unequal e)));
         add_first = λ y x yl xl i o e.
             by_lt_z (p y) (p x) (λ l. absurd (z x (Split k x) (a, b, (xl, refl, first o (y, yl, i, l, inl e))))) (λ l. l);

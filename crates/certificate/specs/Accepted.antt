@@ -8,7 +8,8 @@ use Rattle.matroid.specs.Reading as reading
 use Rattle.matroid.specs.declared.problem.Problem.{Problem}
 use Rattle.certificate.specs.Layout.{count, sized_set}
 use Rattle.certificate.specs.Faults.{Fault, FirstFault}
-use Rattle.certificate.specs.Validity.{Valid, work_length, by_first, by_second}
+use Rattle.matroid.specs.TwoRules.{by_first, by_second}
+use Rattle.certificate.specs.Validity.{Valid, work_length}
 
 -- the file means a problem, for which the certificate is valid, and the lent words are enough
 abbrev pub Certified : List ℕ → List ℕ → ℕ → Problem → Type 0

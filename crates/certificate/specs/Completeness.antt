@@ -10,7 +10,8 @@ use Rattle.matroid.specs.Reading.{and_then, read}
 use Rattle.matroid.specs.declared.problem.Problem.{Problem}
 use Rattle.weighted.specs.Choice.{all_calls, admitted, Chosen, Choice}
 use Rattle.certificate.specs.Layout.{row_at, count}
-use Rattle.certificate.specs.Validity.{Valid, by_first, by_second}
+use Rattle.matroid.specs.TwoRules.{by_first, by_second}
+use Rattle.certificate.specs.Validity.{Valid}
 use Rattle.certificate.specs.Writing.{Written}
 
 -- what is written from a choice, and no more, is a valid certificate with as many sizes as the choice has

@@ -5,6 +5,7 @@ use Rattle.sets.specs.Bits.{row, row_bytes}
 use Rattle.sets.specs.Matroid.{Set, size, both, outside, with, without}
 use Rattle.sets.specs.declared.refusal.Refusal.{Refusal}
 use Rattle.sets.specs.declared.refusal.Refusal.TheVariants.{Length, Range, Short, Refused, Dual, Split}
+use Rattle.sets.specs.declared.refusal.Which.TheVariants.{First, Second}
 use Rattle.sets.specs.declared.refusal.Source.TheVariants.{Certificate}
 use Rattle.sets.specs.declared.refusal.Lent.TheVariants.{Work}
 use Rattle.certificate.specs.Layout.{row_at, largest_set, dual_set, sized_set, count, needed, first_part, second_part}
@@ -25,9 +26,9 @@ pub data ByteFault (n : ℕ) (sheet : List ℕ) : ℕ → Refusal → Type 0 whe
 
 -- a set that should have size k: it has another size or the first rule refuses it, or the second does
 pub data SetFault (n : ℕ) (f g : Set → Bool) (k : ℕ) (s : Set) : ℕ → Refusal → Type 0 where
-  wrong_size : size n s ≢ k → SetFault n f g k s 0 (Refused k false)
-  first_refuses : f s ≡ false → SetFault n f g k s 0 (Refused k false)
-  second_refuses : g s ≡ false → SetFault n f g k s 1 (Refused k true)
+  wrong_size : size n s ≢ k → SetFault n f g k s 0 (Refused k First)
+  first_refuses : f s ≡ false → SetFault n f g k s 0 (Refused k First)
+  second_refuses : g s ≡ false → SetFault n f g k s 1 (Refused k Second)
 
 -- offer x could be added on its side of the dual set u of s, by that side's rule
 pub data Joins (f g : Set → Bool) (s u : Set) (x : ℕ) : Type 0 where

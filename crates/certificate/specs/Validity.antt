@@ -4,7 +4,7 @@ use Rattle.std.specs.Prelude.{◌≡◌, ℕ, ◌+◌, ◌*◌, ◌<◌, ◌≤�
 use Rattle.sets.specs.Bits.{row_words}
 use Rattle.sets.specs.Matroid.{Set, size}
 use Rattle.matroid.specs.Optimal.{Dual, SignedSplit}
-use Rattle.matroid.specs.Rules.{allows, Well, Ready, kept_length}
+use Rattle.matroid.specs.Rules.{Well, kept_length}
 use Rattle.matroid.specs.declared.problem.Problem.{Problem}
 use Rattle.certificate.specs.Layout.{row_at, largest_set, dual_set, sized_set, count, needed, first_part, second_part, Clean}
 
@@ -29,15 +29,3 @@ pub record Usable (file : List ℕ) (problem : Problem) : Type 0 where
   pub weights : 2 + 4 * problem.n ≤ length file
   pub first : Well file problem.n problem.first
   pub second : Well file problem.n problem.second
-
--- what the two rules allow
-abbrev pub by_first : List ℕ → Problem → Set → Bool
-by_first file problem = allows file problem.n problem.first
-
-abbrev pub by_second : List ℕ → Problem → Set → Bool
-by_second file problem = allows file problem.n problem.second
-
--- the two kept states are those of the sets s and t
-pub record Kept (file : List ℕ) (problem : Problem) (s t : Set) (a b : List ℕ) : Type 0 where
-  pub first : Ready file problem.n problem.first s a
-  pub second : Ready file problem.n problem.second t b

@@ -1,120 +1,101 @@
 // The dual set of the largest set: on either side of it no further offer can be added.
-ghost use Rattle.std.specs.Prelude.{◌≡◌, ℕ, ◌+◌, ◌*◌, ◌^◌, ◌<◌, ◌≤◌, true, false, not, ◌&&◌, length, Decides, MatchResult};
-ghost use Rattle.sets.specs.Bits.{row_bytes, marked, row_words};
+ghost use Rattle.std.specs.Prelude.{◌≡◌, ℕ, ◌*◌, ◌<◌, ◌≤◌, true, false, not, ◌&&◌, length, Decides, MatchResult};
+ghost use Rattle.sets.specs.Bits.{marked, row_words};
 ghost use Rattle.sets.specs.Matroid.{pick, both, outside};
-ghost use Rattle.matroid.specs.Rules.{kept_length};
+ghost use Rattle.exchange.specs.Memory.{StatesFit};
+ghost use Rattle.matroid.specs.TwoRules.{by_first, by_second, BothKept};
 ghost use Rattle.certificate.specs.Layout.{row_at, largest_set, dual_set};
-ghost use Rattle.certificate.specs.Validity.{Usable, Kept, by_first, by_second};
+ghost use Rattle.certificate.specs.Validity.{Usable};
 ghost use Rattle.certificate.specs.Faults.{Joins, DualFault, Clear, Earliest};
 
+use crate::claim::Claim;
 use crate::layout::row_at;
-use matroid::problem::Problem;
-use matroid::{can_add, independent};
+use matroid::States;
 use sets::refusal::Refusal;
-use sets::{bytes, words};
+use sets::{bits, words};
 
-// Loads what the largest set has inside of the dual set, or what it has outside.
-fn load_side(sheet: &[u8], n: usize, inner: bool, set: &mut [u32])
-    requires { (n ≤ 600) × ((row_at n 2 ≤ length sheet.now) × (row_words n ≤ length set.old)) }
-    ensures { (v : ℕ) → v < n → marked set.new v ≡ (largest_set n sheet.now v && pick inner (dual_set n sheet.now v) (not (dual_set n sheet.now v))) }
-{
-    words::load_row(sheet, row_at(n, 0), n, set, 0);
-    let dual = row_at(n, 1);
-    for x in 0..n {
-        if bytes::contains(sheet, dual, x) != inner {
-            words::remove(set, 0, x);
+impl Claim<'_, '_> {
+    // Loads what the largest set has inside of the dual set, or what it has outside.
+    fn load_side(&self, inner: bool, set: &mut [u32])
+        requires whole { row_at self.now.offers.problem.n 2 ≤ length self.now.sheet.now }
+        requires room { row_words self.now.offers.problem.n ≤ length set.old }
+        ensures { let n = self.now.offers.problem.n in let u = dual_set n self.now.sheet.now in
+            (v : ℕ) → v < n → marked set.new v ≡ (largest_set n self.now.sheet.now v && pick inner (u v) (not (u v))) }
+    {
+        let n = self.offers.problem.n;
+        words::load_row(self.sheet, row_at(n, 0), n, set, 0);
+        for x in 0..n {
+            if self.in_row(1, x) != inner {
+                bits::remove(set, 0, x);
+            }
         }
     }
-}
 
-// Loads both sides and asks each side's rule for it, which keeps their states.
-fn load_sides(
-    file: &[u8],
-    problem: Problem,
-    sheet: &[u8],
-    inside: &mut [u32],
-    beyond: &mut [u32],
-    first_state: &mut [u32],
-    second_state: &mut [u32],
-)
-    requires usable { (Usable file.now problem) × (row_at problem.n 2 ≤ length sheet.now) }
-    requires allowed { (by_first file.now problem (largest_set problem.n sheet.now) ≡ true) × (by_second file.now problem (largest_set problem.n sheet.now) ≡ true) }
-    requires lengths { (row_words problem.n ≤ length inside.old) × ((row_words problem.n ≤ length beyond.old) × ((kept_length problem.n ≤ length first_state.old) × (kept_length problem.n ≤ length second_state.old))) }
-    ensures inner { (v : ℕ) → v < problem.n → marked inside.new v ≡ both (largest_set problem.n sheet.now) (dual_set problem.n sheet.now) v }
-    ensures outer { (v : ℕ) → v < problem.n → marked beyond.new v ≡ outside (largest_set problem.n sheet.now) (dual_set problem.n sheet.now) v }
-    ensures kept { Kept file.now problem (marked inside.new) (marked beyond.new) first_state.new second_state.new }
-{
-    load_side(sheet, problem.n, true, inside);
-    load_side(sheet, problem.n, false, beyond);
-    independent(file, problem.n, problem.first, inside, first_state);
-    independent(file, problem.n, problem.second, beyond, second_state);
-}
-
-// Could offer x be added on its side of the dual set, by that side's rule?
-fn joins(
-    file: &[u8],
-    problem: Problem,
-    sheet: &[u8],
-    inside: &[u32],
-    beyond: &[u32],
-    first_state: &[u32],
-    second_state: &[u32],
-    x: usize,
-) -> bool
-    requires usable { (Usable file.now problem) × ((row_at problem.n 2 ≤ length sheet.now) × (x < problem.n)) }
-    requires lengths { (row_words problem.n ≤ length inside.now) × (row_words problem.n ≤ length beyond.now) }
-    requires inner { (v : ℕ) → v < problem.n → marked inside.now v ≡ both (largest_set problem.n sheet.now) (dual_set problem.n sheet.now) v }
-    requires outer { (v : ℕ) → v < problem.n → marked beyond.now v ≡ outside (largest_set problem.n sheet.now) (dual_set problem.n sheet.now) v }
-    requires ready { Kept file.now problem (marked inside.now) (marked beyond.now) first_state.now second_state.now }
-    ensures { Decides result (Joins (by_first file.now problem) (by_second file.now problem) (largest_set problem.n sheet.now) (dual_set problem.n sheet.now) x) }
-{
-    if bytes::contains(sheet, row_at(problem.n, 0), x) {
-        return false;
+    // Loads both sides and asks each side's rule for it, which keeps their states.
+    fn load_sides(&self, inside: &mut [u32], beyond: &mut [u32], states: &mut States)
+        requires usable { Usable self.now.offers.file.now self.now.offers.problem }
+        requires whole { row_at self.now.offers.problem.n 2 ≤ length self.now.sheet.now }
+        requires first { by_first self.now.offers.file.now self.now.offers.problem (largest_set self.now.offers.problem.n self.now.sheet.now) ≡ true }
+        requires second { by_second self.now.offers.file.now self.now.offers.problem (largest_set self.now.offers.problem.n self.now.sheet.now) ≡ true }
+        requires sides { (row_words self.now.offers.problem.n ≤ length inside.old) × (row_words self.now.offers.problem.n ≤ length beyond.old) }
+        requires states { StatesFit self.now.offers.problem.n states.old }
+        ensures inner { let n = self.now.offers.problem.n in
+            (v : ℕ) → v < n → marked inside.new v ≡ both (largest_set n self.now.sheet.now) (dual_set n self.now.sheet.now) v }
+        ensures outer { let n = self.now.offers.problem.n in
+            (v : ℕ) → v < n → marked beyond.new v ≡ outside (largest_set n self.now.sheet.now) (dual_set n self.now.sheet.now) v }
+        ensures kept { BothKept self.now.offers.file.now self.now.offers.problem (marked inside.new) (marked beyond.new) states.new.first.now states.new.second.now }
+    {
+        self.load_side(true, inside);
+        self.load_side(false, beyond);
+        self.offers.first().independent(inside, states.first);
+        self.offers.second().independent(beyond, states.second);
     }
-    if bytes::contains(sheet, row_at(problem.n, 1), x) {
-        return can_add(file, problem.n, problem.first, inside, first_state, x);
-    }
-    can_add(file, problem.n, problem.second, beyond, second_state, x)
-}
 
-// The dual set, offer by offer.
-pub fn check_dual(
-    file: &[u8],
-    problem: Problem,
-    sheet: &[u8],
-    inside: &mut [u32],
-    beyond: &mut [u32],
-    first_state: &mut [u32],
-    second_state: &mut [u32],
-) -> Result<(), Refusal>
-    requires usable { (Usable file.now problem) × (row_at problem.n 2 ≤ length sheet.now) }
-    requires allowed { (by_first file.now problem (largest_set problem.n sheet.now) ≡ true) × (by_second file.now problem (largest_set problem.n sheet.now) ≡ true) }
-    requires lengths { (row_words problem.n ≤ length inside.old) × ((row_words problem.n ≤ length beyond.old) × ((kept_length problem.n ≤ length first_state.old) × (kept_length problem.n ≤ length second_state.old))) }
-    ensures { MatchResult result (λ _. Clear (DualFault problem.n (by_first file.now problem) (by_second file.now problem) (largest_set problem.n sheet.now) (dual_set problem.n sheet.now)))
-        (λ e. Earliest (DualFault problem.n (by_first file.now problem) (by_second file.now problem) (largest_set problem.n sheet.now) (dual_set problem.n sheet.now)) e) }
-{
-    load_sides(
-        file,
-        problem,
-        sheet,
-        inside,
-        beyond,
-        first_state,
-        second_state,
-    );
-    for x in 0..problem.n {
-        if joins(
-            file,
-            problem,
-            sheet,
-            inside,
-            beyond,
-            first_state,
-            second_state,
-            x,
-        ) {
-            return Err(Refusal::Dual(x));
+    // Could offer x be added on its side of the dual set, by that side's rule?
+    fn joins(&self, inside: &[u32], beyond: &[u32], states: &States, x: usize) -> bool
+        requires usable { Usable self.now.offers.file.now self.now.offers.problem }
+        requires whole { row_at self.now.offers.problem.n 2 ≤ length self.now.sheet.now }
+        requires offer { x < self.now.offers.problem.n }
+        requires sides { (row_words self.now.offers.problem.n ≤ length inside.now) × (row_words self.now.offers.problem.n ≤ length beyond.now) }
+        requires inner { let n = self.now.offers.problem.n in
+            (v : ℕ) → v < n → marked inside.now v ≡ both (largest_set n self.now.sheet.now) (dual_set n self.now.sheet.now) v }
+        requires outer { let n = self.now.offers.problem.n in
+            (v : ℕ) → v < n → marked beyond.now v ≡ outside (largest_set n self.now.sheet.now) (dual_set n self.now.sheet.now) v }
+        requires ready { BothKept self.now.offers.file.now self.now.offers.problem (marked inside.now) (marked beyond.now) states.now.first.now states.now.second.now }
+        ensures { let o = self.now.offers in
+            Decides result (Joins (by_first o.file.now o.problem) (by_second o.file.now o.problem) (largest_set o.problem.n self.now.sheet.now) (dual_set o.problem.n self.now.sheet.now) x) }
+    {
+        if self.in_row(0, x) {
+            return false;
+        }
+        if self.in_row(1, x) {
+            return self.offers.first().can_add(inside, states.first, x);
+        }
+        self.offers.second().can_add(beyond, states.second, x)
+    }
+
+    // The dual set, offer by offer.
+    pub(crate) fn check_dual(
+        &self,
+        inside: &mut [u32],
+        beyond: &mut [u32],
+        states: &mut States,
+    ) -> Result<(), Refusal>
+        requires usable { Usable self.now.offers.file.now self.now.offers.problem }
+        requires whole { row_at self.now.offers.problem.n 2 ≤ length self.now.sheet.now }
+        requires first { by_first self.now.offers.file.now self.now.offers.problem (largest_set self.now.offers.problem.n self.now.sheet.now) ≡ true }
+        requires second { by_second self.now.offers.file.now self.now.offers.problem (largest_set self.now.offers.problem.n self.now.sheet.now) ≡ true }
+        requires sides { (row_words self.now.offers.problem.n ≤ length inside.old) × (row_words self.now.offers.problem.n ≤ length beyond.old) }
+        requires states { StatesFit self.now.offers.problem.n states.old }
+        ensures fault { let o = self.now.offers in let s = largest_set o.problem.n self.now.sheet.now in let u = dual_set o.problem.n self.now.sheet.now in
+            MatchResult result (λ _. Clear (DualFault o.problem.n (by_first o.file.now o.problem) (by_second o.file.now o.problem) s u))
+            (λ e. Earliest (DualFault o.problem.n (by_first o.file.now o.problem) (by_second o.file.now o.problem) s u) e) }
+        ensures states { StatesFit self.now.offers.problem.n states.new }
+    {
+        self.load_sides(inside, beyond, states);
+        match (0..self.offers.problem.n).find(|x| self.joins(inside, beyond, states, *x)) {
+            Some(x) => Err(Refusal::Dual(x)),
+            None => Ok(()),
         }
     }
-    Ok(())
 }

@@ -2,16 +2,16 @@
 #![tactic(auto)]
 
 mod choosing;
+mod claim;
 mod dual;
 mod layout;
 mod offers;
-mod sheet;
 mod sized;
 mod split;
 pub mod theory;
 mod writing;
 
 pub use choosing::choose_and_check;
+pub use claim::{Claim, work_length};
 pub use offers::check;
-pub use sheet::{check_sheet, work_length};
-pub use writing::write_sheet;
+pub use writing::{sheet_length, write_sheet};

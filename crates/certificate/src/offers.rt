@@ -1,10 +1,11 @@
 // A file of offers and a certificate for it, whatever their bytes are.
 
-ghost use Rattle.std.specs.Prelude.{ℕ, ◌≤◌, length, MatchResult};
+ghost use Rattle.std.specs.Prelude.{length, MatchResult};
 ghost use Rattle.matroid.specs.declared.problem.Problem.{Problem};
 ghost use Rattle.certificate.specs.Accepted.{Certified, Proven, FirstRefusal};
 
-use crate::sheet::check_sheet;
+use crate::claim::Claim;
+use matroid::Offers;
 use matroid::problem::read;
 use sets::refusal::Refusal;
 
@@ -15,5 +16,6 @@ pub fn check(file: &[u8], sheet: &[u8], work: &mut [u32]) -> Result<usize, Refus
         (λ e. FirstRefusal file.now sheet.now (length work.old) e × ((problem : Problem) → Certified file.now sheet.now (length work.old) problem → ⊥)) }
 {
     let problem = read(file)?;
-    check_sheet(file, problem, sheet, work)
+    let offers = Offers { file, problem };
+    Claim { offers, sheet }.check(work)
 }

@@ -1,99 +1,91 @@
 // The set and the numbers of one size.
-ghost use Rattle.std.specs.Prelude.{◌≡◌, ℕ, ◌+◌, ◌*◌, ◌^◌, ◌<◌, ◌≤◌, true, false, length, MatchResult, OnOk};
+ghost use Rattle.std.specs.Prelude.{◌≡◌, ℕ, ◌+◌, ◌<◌, ◌≤◌, true, false, length, MatchResult, OnOk};
 ghost use Rattle.sets.specs.Bits.{row, row_bytes, marked, row_words};
+ghost use Rattle.exchange.specs.Memory.{StatesFit};
 ghost use Rattle.matroid.specs.Problem.{weight_of};
-ghost use Rattle.matroid.specs.Rules.{kept_length};
+ghost use Rattle.matroid.specs.TwoRules.{by_first, by_second, BothKept};
 ghost use Rattle.certificate.specs.Layout.{count, needed};
-ghost use Rattle.certificate.specs.Validity.{Usable, Kept, by_first, by_second};
+ghost use Rattle.certificate.specs.Validity.{Usable};
 ghost use Rattle.certificate.specs.Faults.{SetFault, Clear, Earliest, Right, Wrong, AllRight, SomeWrong};
 
+use crate::claim::Claim;
 use crate::layout::row_at;
-use crate::split::check_numbers;
-use matroid::independent;
-use matroid::problem::Problem;
-use sets::refusal::Refusal;
-use sets::words;
+use matroid::States;
+use sets::refusal::{Refusal, Which};
+use sets::{bits, words};
 
-// Loads the set at byte `at`, which should have k offers, and asks both rules for it.
-pub fn check_set(
-    file: &[u8],
-    problem: Problem,
-    sheet: &[u8],
-    at: usize,
-    k: usize,
-    set: &mut [u32],
-    first_state: &mut [u32],
-    second_state: &mut [u32],
-) -> Result<(), Refusal>
-    requires usable { (Usable file.now problem) × (at + row_bytes problem.n ≤ length sheet.now) }
-    requires lengths { (row_words problem.n ≤ length set.old) × ((kept_length problem.n ≤ length first_state.old) × (kept_length problem.n ≤ length second_state.old)) }
-    ensures fault { MatchResult result (λ _. Clear (SetFault problem.n (by_first file.now problem) (by_second file.now problem) k (row sheet.now at)))
-        (λ e. Earliest (SetFault problem.n (by_first file.now problem) (by_second file.now problem) k (row sheet.now at)) e) }
-    ensures loaded { (v : ℕ) → v < problem.n → marked set.new v ≡ row sheet.now at v }
-    ensures kept { OnOk result (Kept file.now problem (marked set.new) (marked set.new) first_state.new second_state.new) }
-{
-    words::load_row(sheet, at, problem.n, set, 0);
-    if words::count(set, 0, problem.n) != k {
-        return Err(Refusal::Refused(k, false));
+impl Claim<'_, '_> {
+    // Loads the set at byte `at`, which should have k offers, and asks both rules for it.
+    pub(crate) fn check_set(
+        &self,
+        at: usize,
+        k: usize,
+        set: &mut [u32],
+        states: &mut States,
+    ) -> Result<(), Refusal>
+        requires usable { Usable self.now.offers.file.now self.now.offers.problem }
+        requires whole { at + row_bytes self.now.offers.problem.n ≤ length self.now.sheet.now }
+        requires room { row_words self.now.offers.problem.n ≤ length set.old }
+        requires states { StatesFit self.now.offers.problem.n states.old }
+        ensures fault { let o = self.now.offers in let f = by_first o.file.now o.problem in let g = by_second o.file.now o.problem in
+            MatchResult result (λ _. Clear (SetFault o.problem.n f g k (row self.now.sheet.now at)))
+            (λ e. Earliest (SetFault o.problem.n f g k (row self.now.sheet.now at)) e) }
+        ensures loaded { (v : ℕ) → v < self.now.offers.problem.n → marked set.new v ≡ row self.now.sheet.now at v }
+        ensures kept { OnOk result (BothKept self.now.offers.file.now self.now.offers.problem (marked set.new) (marked set.new) states.new.first.now states.new.second.now) }
+    {
+        let n = self.offers.problem.n;
+        words::load_row(self.sheet, at, n, set, 0);
+        if bits::count(set, 0, n) != k {
+            return Err(Refusal::Refused(k, Which::First));
+        }
+        if !self.offers.first().independent(set, states.first) {
+            return Err(Refusal::Refused(k, Which::First));
+        }
+        if !self.offers.second().independent(set, states.second) {
+            return Err(Refusal::Refused(k, Which::Second));
+        }
+        Ok(())
     }
-    if !independent(file, problem.n, problem.first, set, first_state) {
-        return Err(Refusal::Refused(k, false));
-    }
-    if !independent(file, problem.n, problem.second, set, second_state) {
-        return Err(Refusal::Refused(k, true));
-    }
-    Ok(())
-}
 
-// The set and the numbers of size k.
-fn check_size(
-    file: &[u8],
-    problem: Problem,
-    sheet: &[u8],
-    k: usize,
-    set: &mut [u32],
-    first_state: &mut [u32],
-    second_state: &mut [u32],
-) -> Result<(), Refusal>
-    requires usable { (Usable file.now problem) × (length sheet.now ≡ needed problem.n sheet.now) }
-    requires size { (1 ≤ k) × ((k ≤ count problem.n sheet.now) × (k ≤ 600)) }
-    requires lengths { (row_words problem.n ≤ length set.old) × ((kept_length problem.n ≤ length first_state.old) × (kept_length problem.n ≤ length second_state.old)) }
-    ensures { MatchResult result (λ _. Right problem.n (by_first file.now problem) (by_second file.now problem) (weight_of file.now) sheet.now k)
-        (λ e. Wrong problem.n (by_first file.now problem) (by_second file.now problem) (weight_of file.now) sheet.now k e) }
-{
-    let at = row_at(problem.n, k + 1);
-    check_set(file, problem, sheet, at, k, set, first_state, second_state)?;
-    let numbers = at + (problem.n + 7) / 8;
-    check_numbers(
-        file,
-        problem,
-        set,
-        first_state,
-        second_state,
-        sheet,
-        numbers,
-        k,
-    )
-}
-
-// All sizes, the smallest first.
-pub fn check_sizes(
-    file: &[u8],
-    problem: Problem,
-    sheet: &[u8],
-    sizes: usize,
-    set: &mut [u32],
-    first_state: &mut [u32],
-    second_state: &mut [u32],
-) -> Result<(), Refusal>
-    requires usable { (Usable file.now problem) × (length sheet.now ≡ needed problem.n sheet.now) }
-    requires sizes { (sizes ≡ count problem.n sheet.now) × (sizes ≤ 600) }
-    requires lengths { (row_words problem.n ≤ length set.old) × ((kept_length problem.n ≤ length first_state.old) × (kept_length problem.n ≤ length second_state.old)) }
-    ensures { MatchResult result (λ _. AllRight problem.n (by_first file.now problem) (by_second file.now problem) (weight_of file.now) sheet.now (sizes + 1))
-        (λ e. SomeWrong problem.n (by_first file.now problem) (by_second file.now problem) (weight_of file.now) sheet.now (sizes + 1) e) }
-{
-    for k in 1..sizes + 1 {
-        check_size(file, problem, sheet, k, set, first_state, second_state)?;
+    // The set and the numbers of size k.
+    fn check_size(&self, k: usize, set: &mut [u32], states: &mut States) -> Result<(), Refusal>
+        requires usable { Usable self.now.offers.file.now self.now.offers.problem }
+        requires long { length self.now.sheet.now ≡ needed self.now.offers.problem.n self.now.sheet.now }
+        requires some { 1 ≤ k }
+        requires size { k ≤ count self.now.offers.problem.n self.now.sheet.now }
+        requires few { k ≤ 600 }
+        requires room { row_words self.now.offers.problem.n ≤ length set.old }
+        requires states { StatesFit self.now.offers.problem.n states.old }
+        ensures fault { let o = self.now.offers in let f = by_first o.file.now o.problem in let g = by_second o.file.now o.problem in
+            MatchResult result (λ _. Right o.problem.n f g (weight_of o.file.now) self.now.sheet.now k)
+            (λ e. Wrong o.problem.n f g (weight_of o.file.now) self.now.sheet.now k e) }
+        ensures states { OnOk result (StatesFit self.now.offers.problem.n states.new) }
+    {
+        let at = row_at(self.offers.problem.n, k + 1);
+        self.check_set(at, k, set, states)?;
+        self.check_numbers(set, states, at + self.offers.problem.n.div_ceil(8), k)
     }
-    Ok(())
+
+    // All sizes, the smallest first.
+    pub(crate) fn check_sizes(
+        &self,
+        sizes: usize,
+        set: &mut [u32],
+        states: &mut States,
+    ) -> Result<(), Refusal>
+        requires usable { Usable self.now.offers.file.now self.now.offers.problem }
+        requires long { length self.now.sheet.now ≡ needed self.now.offers.problem.n self.now.sheet.now }
+        requires sizes { sizes ≡ count self.now.offers.problem.n self.now.sheet.now }
+        requires few { sizes ≤ 600 }
+        requires room { row_words self.now.offers.problem.n ≤ length set.old }
+        requires states { StatesFit self.now.offers.problem.n states.old }
+        ensures { let o = self.now.offers in let f = by_first o.file.now o.problem in let g = by_second o.file.now o.problem in
+            MatchResult result (λ _. AllRight o.problem.n f g (weight_of o.file.now) self.now.sheet.now (sizes + 1))
+            (λ e. SomeWrong o.problem.n f g (weight_of o.file.now) self.now.sheet.now (sizes + 1) e) }
+    {
+        for k in 1..sizes + 1 {
+            self.check_size(k, set, states)?;
+        }
+        Ok(())
+    }
 }

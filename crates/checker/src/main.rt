@@ -9,26 +9,16 @@ use std::{env, fs, io};
 
 mod example;
 
-// The input that a refusal's place in bytes belongs to.
-fn whose(refusal: Refusal) -> &'static str {
-    match refusal {
-        Refusal::Length(Source::Certificate, _) | Refusal::Range(Source::Certificate, _) => {
-            " in the certificate"
-        }
-        Refusal::Short(_) | Refusal::Refused(_, _) | Refusal::Dual(_) | Refusal::Split(_, _) => "",
-        _ => " in the offers",
-    }
-}
-
-// Says why and where it is refused.
+// Says why and where it is refused: of a place in bytes the input, too.
 fn show(rt: &impl Print, refusal: Refusal) -> io::Result<()> {
-    let number = refusal.number();
-    let place = refusal.place();
-    let input = whose(refusal);
-    if let Refusal::Split(size, _) = refusal {
-        return println!(rt; "refused {number} at {place} size {size}");
+    match refusal {
+        Refusal::Split(size, _) => println!(rt; "{refusal} size {size}"),
+        Refusal::Short(_) | Refusal::Refused(_, _) | Refusal::Dual(_) => println!(rt; "{refusal}"),
+        Refusal::Length(input, _) | Refusal::Range(input, _) => println!(rt;
+            "{refusal} in {input}"
+        ),
+        _ => println!(rt; "{refusal} in {}", Source::Offers),
     }
-    println!(rt; "refused {number} at {place}{input}")
 }
 
 // Checks a certificate and says what came of it. Is it accepted?

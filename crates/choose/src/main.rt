@@ -2,8 +2,9 @@
 #![tactic(auto)]
 
 use anyhow::anyhow;
-use certificate::choose_and_check;
-use sets::numbers::read_u16;
+use certificate::{choose_and_check, sheet_length};
+use report::Report;
+use sets::numbers;
 use sets::refusal::Refusal;
 use std::io::{BufWriter, Write};
 use std::process::ExitCode;
@@ -27,21 +28,25 @@ fn offers(file: &[u8]) -> usize {
     if file.len() < 2 {
         return 0;
     }
-    (read_u16(file, 0) as usize).min(600)
+    (numbers::read::<2>(file, 0) as usize).min(600)
 }
 
 // Says why a file is refused.
 fn refuse(rt: &HostRuntime, refusal: Refusal) -> io::Result<bool> {
-    let number = refusal.number();
-    let place = refusal.place();
-    println!(rt; "refused {number} at {place}")?;
+    println!(rt; "{refusal}")?;
     Ok(false)
 }
 
 // Says what is chosen.
 fn tell(rt: &HostRuntime, file: &[u8], size: usize, sets: &[u8]) -> io::Result<bool> {
+    let report = Report {
+        file,
+        n: offers(file),
+        size,
+        sets,
+    };
     let mut out = BufWriter::new(rt.alloc(), rt.stdout())?;
-    report::show(&mut out, file, offers(file), size, sets)?;
+    write!(out, "{report}")?;
     out.flush()?;
     Ok(true)
 }
@@ -76,7 +81,7 @@ fn certify(rt: &HostRuntime, file: &[u8], name: &str) -> anyhow::Result<bool> {
         work.as_mut_slice(),
     ) {
         Ok(size) => {
-            sheet.truncate(report::sheet_length(offers(file), size));
+            sheet.truncate(sheet_length(offers(file).min(600), size.min(600)));
             fs::write(rt, name, sheet.as_slice())?;
             Ok(tell(rt, file, size, sets.as_slice())?)
         }

@@ -1,21 +1,16 @@
 -- Where the cells of a table of rows stand in its words.
-use Rattle.std.proofs.Common.{◌≡◌, ℕ, ◌+◌, ◌*◌, ◌<◌, ◌≤◌, Bool, true, false, not, ◌&&◌, ◌||◌, eqb, ◌⊎◌, List, length, get_or, set, sym, refl, ap, ◌∙◌, ⊎_elim, mul-one, mul-add, arith}
+use Rattle.std.proofs.Common.{◌≡◌, ℕ, ◌+◌, ◌*◌, ◌<◌, ◌≤◌, Bool, true, false, ◌&&◌, ◌||◌, eqb, ◌⊎◌, List, length, get_or, set, sym, refl, ap, ◌∙◌, inl, inr, ⊎_elim, mul-one, mul-add, arith}
 use Rattle.std.proofs.lemmas.Nat.{mul-le}
 use Rattle.std.proofs.lemmas.List.{get_or-set_same, get_or-set_other}
 use Rattle.std.proofs.lemmas.Bool.{cases_eq, cases_order, eq-eqb, ne_eqb}
 use Rattle.sets.specs.Matroid.{pick}
-use Rattle.sets.specs.Bits.{marked, row_words}
+use Rattle.sets.specs.Bits.{marked, row_words, SameBut}
+use Rattle.sets.proofs.Stretches.{marks_outside}
 use Rattle.exchange.specs.Graph.{at, table}
 
 -- rows of r words: the row after v begins r words further
 pub next_row : (r v : ℕ) → r * (v + 1) ≡ r * v + r
 next_row r v = mul-add r v 1 ∙ ap (λ (x : ℕ). r * v + x) (mul-one r)
-
--- a cell of the table lies within its words
-pub cell_within : (n r v u len : ℕ) → n ≤ 32 * r → r * n ≤ len → v < n → u < n → 32 * (r * v) + u < 32 * len
-cell_within n r v u len p q h i =
-    let m : r * (v + 1) ≤ r * n = mul-le r (v + 1) r n (omega arith) (omega arith) in
-    omega (arith, next_row r v)
 
 -- a row of an earlier element ends before a later one begins
 pub rows_apart : (n r v m u : ℕ) → n ≤ 32 * r → v < m → u < n → 32 * (r * v) + u < 32 * (r * m)
@@ -66,14 +61,7 @@ in_or false true = refl
 in_or true false = refl
 in_or false false = refl
 
--- a bit after it is cleared
-out_of : (b e : Bool) → (b && not e) ≡ pick e false b
-out_of true true = refl
-out_of false true = refl
-out_of true false = refl
-out_of false false = refl
-
--- the table after a cell is set, and after one is cleared
+-- the table after a cell is set
 pub cell_in : (n : ℕ) (old new : List ℕ) (v u : ℕ) → u < n → ((p : ℕ) → marked new p ≡ (marked old p || eqb p (32 * (row_words n * v) + u))) →
     (i j : ℕ) → j < n → table n new i j ≡ pick (eqb i v && eqb j u) true (table n old i j)
 unfolding table
@@ -81,28 +69,56 @@ cell_in n old new v u h each i j q =
     each (32 * (row_words n * i) + j) ∙ in_or (marked old (32 * (row_words n * i) + j)) _
     ∙ ap (λ (b : Bool). pick b true (marked old (32 * (row_words n * i) + j))) (same_cell n (row_words n) i j v u (omega arith) q h)
 
--- .. and after one is cleared
-pub cell_out : (n : ℕ) (old new : List ℕ) (v u : ℕ) → u < n → ((p : ℕ) → marked new p ≡ (marked old p && not (eqb p (32 * (row_words n * v) + u)))) →
-    (i j : ℕ) → j < n → table n new i j ≡ pick (eqb i v && eqb j u) false (table n old i j)
-unfolding table
-cell_out n old new v u h each i j q =
-    each (32 * (row_words n * i) + j) ∙ out_of (marked old (32 * (row_words n * i) + j)) _
-    ∙ ap (λ (b : Bool). pick b false (marked old (32 * (row_words n * i) + j))) (same_cell n (row_words n) i j v u (omega arith) q h)
-
--- the cells of one row while it is written, and of the other rows
-pub row_written : (n : ℕ) (old new : List ℕ) (v u : ℕ) (there : Bool) (g : ℕ → Bool) →
-    ((i j : ℕ) → i < n → j < n → table n new i j ≡ pick (eqb i v && eqb j u) there (table n old i j)) → v < n → u < n → there ≡ g u →
-    ((j : ℕ) → j < u → table n old v j ≡ g j) → (j : ℕ) → j < u + 1 → table n new v j ≡ g j
-row_written n old new v u there g each p q here below j h =
-    written (table n new v) (table n old v) g u there j
-    (each v j p (omega arith) ∙ ap (λ (b : Bool). pick (b && eqb j u) there (table n old v j)) (eq-eqb v v refl)) here h (below j)
-
--- the other rows stay
-pub rows_kept : (n : ℕ) (old new : List ℕ) (v u : ℕ) (there : Bool) →
-    ((i j : ℕ) → i < n → j < n → table n new i j ≡ pick (eqb i v && eqb j u) there (table n old i j)) →
+-- the other rows stay where the words of one are written
+pub rows_beside : (n : ℕ) (old new : List ℕ) (v : ℕ) → SameBut (row_words n * v) (row_words n) old new →
     (i j : ℕ) → i < n → j < n → (i ≡ v → ⊥) → table n new i j ≡ table n old i j
-rows_kept n old new v u there each i j p q e =
-    each i j p q ∙ ap (λ (b : Bool). pick (b && eqb j u) there (table n old i j)) (ne_eqb i v e)
+unfolding table
+rows_beside n old new v same i j p q e =
+    let r = row_words n in
+    marks_outside (r * v) r old new same (32 * (r * i) + j)
+    (⊎_elim
+    (λ (d : i ≡ v). absurd (e d))
+    (λ (o : (i < v) ⊎ (v < i)).
+    ⊎_elim
+    (λ (l : i < v). inl (rows_apart n r i v j (omega arith) l q))
+    (λ (l : v < i).
+    let k : r * (v + 1) ≤ r * i = mul-le r (v + 1) r i (omega arith) (omega arith) in
+    inr (omega (arith, next_row r v)))
+    o)
+    (cases_order i v))
+
+-- one row while it is written: the elements below u as g says, and no arc to the others
+abbrev pub WrittenTo : ℕ → ℕ → (ℕ → Bool) → (ℕ → Bool) → Type 0
+WrittenTo n u row g = ((j : ℕ) → j < u → row j ≡ g j) × ((j : ℕ) → u ≤ j → j < n → row j ≡ false)
+
+-- the next element has no arc, and the row stays
+pub row_passed : (n u : ℕ) (row g : ℕ → Bool) → u < n → g u ≡ false → WrittenTo n u row g → WrittenTo n (u + 1) row g
+row_passed n u row g p here so = (
+  λ j h.
+      ⊎_elim
+      (λ (e : j ≡ u). so.1 j (omega arith) (omega arith) ∙ sym here ∙ ap g (sym e))
+      (λ (e : j ≡ u → ⊥). so.0 j (omega arith))
+      (cases_eq j u),
+  λ j h q. so.1 j (omega arith) q,
+)
+
+-- the next element has an arc, and it is put in
+pub row_joined : (n : ℕ) (old new : List ℕ) (v u : ℕ) (g : ℕ → Bool) →
+    ((i j : ℕ) → i < n → j < n → table n new i j ≡ pick (eqb i v && eqb j u) true (table n old i j)) → v < n → u < n → g u ≡ true →
+    WrittenTo n u (table n old v) g → WrittenTo n (u + 1) (table n new v) g
+row_joined n old new v u g each p q here so =
+    let cell : (j : ℕ) → j < n → table n new v j ≡ pick (eqb j u) true (table n old v j) =
+    λ j h. each v j p h ∙ ap (λ (b : Bool). pick (b && eqb j u) true (table n old v j)) (eq-eqb v v refl) in (
+      λ j h. written (table n new v) (table n old v) g u true j (cell j (omega arith)) (sym here) h (so.0 j),
+      λ j h k. cell j k ∙ ap (λ (b : Bool). pick b true (table n old v j)) (ne_eqb j u (λ e. omega arith)) ∙ so.1 j (omega arith) k,
+    )
+
+-- the other rows stay where an arc is put in
+pub rows_kept : (n : ℕ) (old new : List ℕ) (v u : ℕ) →
+    ((i j : ℕ) → i < n → j < n → table n new i j ≡ pick (eqb i v && eqb j u) true (table n old i j)) →
+    (i j : ℕ) → i < n → j < n → (i ≡ v → ⊥) → table n new i j ≡ table n old i j
+rows_kept n old new v u each i j p q e =
+    each i j p q ∙ ap (λ (b : Bool). pick (b && eqb j u) true (table n old i j)) (ne_eqb i v e)
 
 -- one row more of the table
 pub row_more : (n : ℕ) (old new : List ℕ) (x : ℕ) (g : ℕ → ℕ → Bool) → x < n →

@@ -17,15 +17,6 @@ pub record Grown (n : ℕ) (to : ℕ → ℕ → Bool) (old here : Set) (i : ℕ
   pub closed : grown ≡ false → (v x : ℕ) → v < i → x < n → to v x ≡ true → here x ≡ true → here v ≡ true
   pub least : (t : Set) → Backwards n to t → Within n old t → Within n here t
 
--- before the first element
-pub grown_none : (n : ℕ) (to : ℕ → ℕ → Bool) (old : Set) → Grown n to old old 0 false
-grown_none n to old = record {
-  larger = λ x h. h;
-  more = λ e. absurd (both_ways false refl e);
-  closed = λ _ v x p. absurd (omega arith);
-  least = λ t b h. h;
-}
-
 -- an element that is in already, and one with no arc into the set
 pub grown_pass : (n : ℕ) (to : ℕ → ℕ → Bool) (old here : Set) (i : ℕ) (grown : Bool) →
     ((x : ℕ) → x < n → to i x ≡ true → here x ≡ true → here i ≡ true) → Grown n to old here i grown → Grown n to old here (i + 1) grown

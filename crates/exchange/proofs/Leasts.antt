@@ -78,7 +78,3 @@ passed_over i among d k (Some t) j p off h = (
   h.1,
   λ x q r. ⊎_elim (λ (l : x < i). h.2 x l r) (λ (l : i ≤ x). absurd (both_ways (among x) (off x l q) r)) (cases_lt x i),
 )
-
--- nothing yet
-pub so_far_none : (among : Set) (d k : ℕ → ℕ) → SoFar 0 among d k None
-so_far_none among d k x p = absurd (omega arith)

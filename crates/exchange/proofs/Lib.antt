@@ -14,8 +14,10 @@ pub mod LabelPaths
 pub mod LeadingExists
 pub mod Leasts
 pub mod Needed
+pub mod Oracles
 pub mod Relaxing
 pub mod RoundLabels
+pub mod Rooms
 pub mod Rounds
 pub mod Settling
 pub mod Shortcuts
@@ -23,4 +25,3 @@ pub mod Shorten
 pub mod Skips
 pub mod SmallPaths
 pub mod Verdicts
-pub mod Walks

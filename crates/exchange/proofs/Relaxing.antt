@@ -1,9 +1,9 @@
 -- The labels while the arcs from one element m are followed head by head.
-use Rattle.std.proofs.Common.{◌≡◌, ℕ, ◌+◌, ◌-◌, ◌<◌, ◌≤◌, Bool, true, false, not, ◌&&◌, ◌||◌, eqb, ltb, sym, refl, ap, ◌∙◌, subst, ⊎_elim, arith}
+use Rattle.std.proofs.Common.{◌≡◌, ℕ, ◌+◌, ◌<◌, ◌≤◌, Bool, true, false, not, ◌&&◌, ◌||◌, eqb, ltb, sym, refl, ap, ◌∙◌, subst, ⊎_elim, arith}
 use Rattle.std.proofs.lemmas.Bool.{cases_eq, both_ways, lt-ltb, le-ltb, ne_eqb, cases_lt, and_right}
 use Rattle.sets.specs.Matroid.{pick, Set, outside}
 use Rattle.exchange.specs.Round.{no_worse}
-use Rattle.exchange.specs.Graph.{cost, takes, bettered, Changed}
+use Rattle.exchange.specs.Graph.{takes, bettered, Changed}
 
 -- the heads below i have been followed
 unfoldable pub Partly : ℕ → (ℕ → ℕ → Bool) → (ℕ → ℕ → ℕ) → Set → Set → (ℕ → ℕ) → (ℕ → ℕ) → (ℕ → ℕ) → ℕ → ℕ →
@@ -132,12 +132,6 @@ partly_step n to c settled reached d k back m i now e l ahead after e' l' ahead'
             ∙ ap (λ (z : ℕ). not (reached i) || not (no_worse z (l i) x (k m + 1))) b
             ∙ ap (λ (z : ℕ). not (reached i) || not (no_worse (d i) z x (k m + 1))) g
             ∙ ap (λ (z : ℕ). not (reached i) || not (no_worse (d i) (k i) z (k m + 1))) at_x
-
--- the cost of an arc, by the side on which its tail stands
-pub cost_by_side : (s : Set) (w a : ℕ → ℕ) (v u : ℕ) (inside : Bool) (x paid : ℕ) → inside ≡ s v →
-    x ≡ paid + pick inside (a v - a u) ((w u + a v) - (w v + a u)) → x ≡ paid + cost s w a v u
-unfolding cost
-cost_by_side s w a v u inside x paid p q = q ∙ ap (λ (b : Bool). paid + pick b (a v - a u) ((w u + a v) - (w v + a u))) p
 
 -- heads that are passed over
 pub partly_jump : (n : ℕ) (to : ℕ → ℕ → Bool) (c : ℕ → ℕ → ℕ) (settled reached : Set) (d k back : ℕ → ℕ) (m i j : ℕ) (after : Set) (e l ahead : ℕ → ℕ) →

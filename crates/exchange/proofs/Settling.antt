@@ -265,7 +265,3 @@ open_parts r s h = grind arith
 -- reached and not settled, put together
 pub open_from : (r s : Bool) → r ≡ true → s ≡ false → (r && not s) ≡ true
 open_from r s p q = grind arith
-
--- where none is open, the reached are settled
-pub none_open : (r s : Bool) → (r && not s) ≡ false → r ≡ true → s ≡ true
-none_open r s h p = grind arith

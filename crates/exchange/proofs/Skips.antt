@@ -57,11 +57,3 @@ rest_tells row other at i b h e = outside_bit row other at i h ∙ e
 -- from i to i + 1 there is only i
 pub only_itself : (P : ℕ → Bool) (i : ℕ) → P i ≡ false → (j : ℕ) → i ≤ j → j < i + 1 → P j ≡ false
 only_itself P i h j p q = let e : j ≡ i = omega arith in ap P e ∙ h
-
--- a row at the front of its words
-pub front : (row : List ℕ) (i : ℕ) → word_row row 0 i ≡ marked row i
-front row i = let z : 32 * 0 + i ≡ i = omega arith in ap (λ (x : ℕ). marked row x) z
-
--- the next one is no earlier than where the look-up began
-pub no_earlier : (from r n : ℕ) → from ≤ n → r ≤ n → (r < n → from ≤ r) → from ≤ r
-no_earlier from r n p q h = ⊎_elim (λ (l : r < n). h l) (λ (l : n ≤ r). omega arith) (cases_lt r n)

@@ -1,5 +1,9 @@
 pub mod Examples
 pub mod Graph
+pub mod Labelling
+pub mod Members
+pub mod Memory
 pub mod Paths
 pub mod Predecessors
 pub mod Round
+pub mod Rows

@@ -3,10 +3,15 @@
 #![tactic(auto)]
 
 mod dual;
-pub mod ends;
 pub mod examples;
-mod labels;
+pub mod graph;
+pub mod labelling;
 pub mod paths;
 mod rows;
-mod tables;
+pub mod tables;
 pub mod theory;
+
+pub use graph::{Graph, Prices};
+pub use labelling::Labelling;
+pub use paths::Workspace;
+pub use tables::ExchangeTables;

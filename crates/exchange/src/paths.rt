@@ -1,18 +1,59 @@
 // The work of one round: a best augmenting path, or the dual set where there is none.
 ghost use Rattle.std.specs.Prelude.{◌≡◌, ℕ, ◌+◌, ◌-◌, ◌*◌, ◌<◌, ◌≤◌, true, false, length, MatchOption};
-ghost use Rattle.exchange.specs.Graph.{at, table, Tables, SmallLabels};
+ghost use Rattle.exchange.specs.Graph.{at, Tables, SmallLabels};
+ghost use Rattle.exchange.specs.Memory.{TablesFit, SpaceFits, space_words};
+ghost use Rattle.exchange.specs.Labelling.{LabelsFit};
 ghost use Rattle.exchange.specs.Predecessors.{Predecessors};
 ghost use Rattle.exchange.specs.Round.{top, State, Labels, End, Closed, behind};
 ghost use Rattle.matroid.specs.Optimal.{Dual};
-ghost use Rattle.matroid.specs.Rules.{allows, Well, Ready, kept_length};
+ghost use Rattle.matroid.specs.TwoRules.{by_first, by_second, BothWell, BothKept};
 ghost use Rattle.sets.specs.Bits.{marked, row_words};
 ghost use Rattle.sets.specs.Matroid.{size, with};
 
-use crate::dual::dual_set;
-use crate::ends::best_end;
-use crate::labels::label;
-use crate::tables::tables;
-use matroid::Rule;
+use crate::graph::{Graph, Prices};
+use crate::labelling::Labelling;
+use crate::tables::ExchangeTables;
+use matroid::{Offers, States, kept_length};
+
+// Labels what can be reached by the tables, and finds the end of a best path; or, where no sink is reached, the dual set.
+fn search<'g>(
+    offers: &Offers,
+    prices: &Prices<'g>,
+    set: &'g [u32],
+    tables: &ExchangeTables,
+    labels: &mut Labelling,
+    dual: &mut [u32],
+) -> Option<usize>
+    requires whole { row_words offers.now.problem.n ≤ length set.now }
+    requires tables_fit { TablesFit offers.now.problem.n tables.now }
+    requires labels_fit { LabelsFit offers.now.problem.n labels.old }
+    requires room { row_words offers.now.problem.n ≤ length dual.old }
+    requires numbers { (offers.now.problem.n ≤ length prices.now.weights.now) × (offers.now.problem.n ≤ length prices.now.potentials.now) }
+    requires well { BothWell offers.now.file.now offers.now.problem }
+    requires light { (x : ℕ) → x < offers.now.problem.n → at prices.now.weights.now x ≤ top }
+    requires state { (loss : ℕ) × State offers.now.problem.n (by_first offers.now.file.now offers.now.problem) (by_second offers.now.file.now offers.now.problem) (at prices.now.weights.now) (at prices.now.potentials.now) loss (marked set.now) × (loss ≤ 601 * top) }
+    requires tables { Tables offers.now.problem.n (by_first offers.now.file.now offers.now.problem) (by_second offers.now.file.now offers.now.problem) (marked set.now) tables.now.arcs.now tables.now.sources.now tables.now.sinks.now }
+    ensures labels_fit { LabelsFit offers.now.problem.n labels.new }
+    ensures labels { Labels offers.now.problem.n (by_first offers.now.file.now offers.now.problem) (by_second offers.now.file.now offers.now.problem) (at prices.now.weights.now) (at prices.now.potentials.now) (marked set.now) (marked labels.new.reached.now) (at labels.new.costs.now) (at labels.new.steps.now) (at labels.new.back.now) }
+    ensures small { SmallLabels offers.now.problem.n (at prices.now.weights.now) (at prices.now.potentials.now) (marked labels.new.reached.now) (at labels.new.costs.now) (at labels.new.steps.now) offers.now.problem.n }
+    ensures ends { MatchOption result (Closed offers.now.problem.n (by_first offers.now.file.now offers.now.problem) (by_second offers.now.file.now offers.now.problem) (marked set.now) (marked dual.new)) (λ t. End offers.now.problem.n (by_second offers.now.file.now offers.now.problem) (at prices.now.weights.now) (at prices.now.potentials.now) (marked set.now) (marked labels.new.reached.now) (at labels.new.costs.now) (at labels.new.steps.now) t) }
+    ensures within { MatchOption result ((x : ℕ) → x < offers.now.problem.n → marked set.now x ≡ false → by_second offers.now.file.now offers.now.problem (with (marked set.now) x) ≡ true → marked labels.new.reached.now x ≡ false) (λ t. (j : ℕ) → j < at labels.new.steps.now t → behind (at labels.new.back.now) t j < offers.now.problem.n) }
+    ensures best { MatchOption result (Dual offers.now.problem.n (by_first offers.now.file.now offers.now.problem) (by_second offers.now.file.now offers.now.problem) (marked set.now) (marked dual.new)) (λ t. (m : ℕ) × Predecessors offers.now.problem.n (by_first offers.now.file.now offers.now.problem) (by_second offers.now.file.now offers.now.problem) (at prices.now.weights.now) (at prices.now.potentials.now) (marked set.now) (at labels.new.costs.now) (at labels.new.steps.now) (at labels.new.back.now) t m) }
+{
+    let n = offers.problem.n;
+    let graph = Graph {
+        n,
+        arcs: tables.arcs,
+        set,
+        prices: *prices,
+    };
+    labels.spread(&graph, tables.sources);
+    let end = labels.best_end(n, prices, tables.sinks);
+    if end.is_none() {
+        tables.dual_set(n, dual);
+    }
+    end
+}
 
 // How many exchanges a round has asked, and where its best path ends.
 #[derive(Clone, Copy)]
@@ -21,63 +62,80 @@ pub struct Outcome {
     pub end: Option<usize>,
 }
 
-// Finds the end of a best augmenting path with the labels that lead back from it, or, where no sink is reached, the dual set,
-// which shows that the set is a largest one.
-// The tables are those of the set after. What `settled` holds after is free, and so is `dual` where there is a path.
-pub fn find_path(
-    file: &[u8],
-    n: usize,
-    first: Rule,
-    second: Rule,
-    weights: &[u32],
-    potentials: &[u32],
-    set: &[u32],
-    first_state: &mut [u32],
-    second_state: &mut [u32],
-    arcs: &mut [u32],
-    sources: &mut [u32],
-    sinks: &mut [u32],
-    settled: &mut [u32],
-    reached: &mut [u32],
-    costs: &mut [u32],
-    steps: &mut [u32],
-    back: &mut [u32],
-    dual: &mut [u32],
-) -> Outcome
-    requires sizes { (n ≤ 600) × ((row_words n ≤ length set.now) × ((row_words n * n ≤ length arcs.old) × ((n ≤ length weights.now) × (n ≤ length potentials.now)))) }
-    requires rows { (row_words n ≤ length sources.old) × ((row_words n ≤ length sinks.old) × ((row_words n ≤ length settled.old) × ((row_words n ≤ length reached.old) × (row_words n ≤ length dual.old)))) }
-    requires numbers { (n ≤ length costs.old) × ((n ≤ length steps.old) × (n ≤ length back.old)) }
-    requires states { (kept_length n ≤ length first_state.old) × (kept_length n ≤ length second_state.old) }
-    requires well { (Well file.now n first) × (Well file.now n second) }
-    requires light { (x : ℕ) → x < n → at weights.now x ≤ top }
-    requires state { (loss : ℕ) × State n (allows file.now n first) (allows file.now n second) (at weights.now) (at potentials.now) loss (marked set.now) × (loss ≤ 601 * top) }
-    ensures asked { result.asked ≡ 2 * size n (marked set.now) * (n - size n (marked set.now)) }
-    ensures tables { Tables n (allows file.now n first) (allows file.now n second) (marked set.now) arcs.new sources.new sinks.new }
-    ensures labels { Labels n (allows file.now n first) (allows file.now n second) (at weights.now) (at potentials.now) (marked set.now) (marked reached.new) (at costs.new) (at steps.new) (at back.new) }
-    ensures small { SmallLabels n (at weights.now) (at potentials.now) (marked reached.new) (at costs.new) (at steps.new) n }
-    ensures ends { MatchOption result.end (Closed n (allows file.now n first) (allows file.now n second) (marked set.now) (marked dual.new)) (λ t. End n (allows file.now n second) (at weights.now) (at potentials.now) (marked set.now) (marked reached.new) (at costs.new) (at steps.new) t) }
-    ensures within { MatchOption result.end ((x : ℕ) → x < n → marked set.now x ≡ false → allows file.now n second (with (marked set.now) x) ≡ true → marked reached.new x ≡ false) (λ t. (j : ℕ) → j < at steps.new t → behind (at back.new) t j < n) }
-    ensures best { MatchOption result.end (Dual n (allows file.now n first) (allows file.now n second) (marked set.now) (marked dual.new)) (λ t. (m : ℕ) × Predecessors n (allows file.now n first) (allows file.now n second) (at weights.now) (at potentials.now) (marked set.now) (at costs.new) (at steps.new) (at back.new) t m) }
-    ensures kept { (Ready file.now n first (marked set.now) first_state.new) × (Ready file.now n second (marked set.now) second_state.new) }
-{
-    let asked = tables(
-        file,
-        n,
-        first,
-        second,
-        set,
-        first_state,
-        second_state,
-        arcs,
-        sources,
-        sinks,
-    );
-    label(
-        n, arcs, sources, set, weights, potentials, settled, reached, costs, steps, back,
-    );
-    let end = best_end(n, sinks, reached, weights, potentials, costs, steps);
-    if end.is_none() {
-        dual_set(n, arcs, sinks, dual);
+// The lent memory of a round: what is kept by both rules, the exchange tables, the labels, and a row for the dual set.
+#[derive(Drop)]
+pub struct Workspace<'a> {
+    pub states: States<'a>,
+    pub tables: ExchangeTables<'a>,
+    pub labels: Labelling<'a>,
+    pub dual: &'a mut [u32],
+}
+
+impl<'a> Workspace<'a> {
+    // Shares lent words out for n offers.
+    pub fn share(n: usize, words: &'a mut [u32]) -> Workspace<'a>
+        requires few { n ≤ 600 }
+        requires room { space_words n ≤ length words.old }
+        ensures { SpaceFits n result }
+    {
+        let row = n.div_ceil(32);
+        let (costs, words) = words.split_at_mut(n);
+        let (steps, words) = words.split_at_mut(n);
+        let (back, words) = words.split_at_mut(n);
+        let (sources, words) = words.split_at_mut(row);
+        let (sinks, words) = words.split_at_mut(row);
+        let (settled, words) = words.split_at_mut(row);
+        let (reached, words) = words.split_at_mut(row);
+        let (dual, words) = words.split_at_mut(row);
+        let (arcs, words) = words.split_at_mut(row * n);
+        let (first, second) = words.split_at_mut(kept_length(n));
+        Workspace {
+            states: States { first, second },
+            tables: ExchangeTables {
+                arcs,
+                sources,
+                sinks,
+            },
+            labels: Labelling {
+                reached,
+                settled,
+                costs,
+                steps,
+                back,
+            },
+            dual,
+        }
     }
-    Outcome { asked, end }
+
+    // Finds the end of a best augmenting path with the labels that lead back from it, or, where no sink is reached, the dual set,
+    // which shows that the set is a largest one.
+    // The tables are those of the set after. What `labels.settled` holds after is free, and so is `dual` where there is a path.
+    pub fn find_path<'g>(&mut self, offers: &Offers, prices: &Prices<'g>, set: &'g [u32]) -> Outcome
+        requires room { SpaceFits offers.now.problem.n self.old }
+        requires whole { row_words offers.now.problem.n ≤ length set.now }
+        requires numbers { (offers.now.problem.n ≤ length prices.now.weights.now) × (offers.now.problem.n ≤ length prices.now.potentials.now) }
+        requires well { BothWell offers.now.file.now offers.now.problem }
+        requires light { (x : ℕ) → x < offers.now.problem.n → at prices.now.weights.now x ≤ top }
+        requires state { (loss : ℕ) × State offers.now.problem.n (by_first offers.now.file.now offers.now.problem) (by_second offers.now.file.now offers.now.problem) (at prices.now.weights.now) (at prices.now.potentials.now) loss (marked set.now) × (loss ≤ 601 * top) }
+        ensures room { SpaceFits offers.now.problem.n self.new }
+        ensures asked { result.asked ≡ 2 * size offers.now.problem.n (marked set.now) * (offers.now.problem.n - size offers.now.problem.n (marked set.now)) }
+        ensures tables { Tables offers.now.problem.n (by_first offers.now.file.now offers.now.problem) (by_second offers.now.file.now offers.now.problem) (marked set.now) self.new.tables.arcs.now self.new.tables.sources.now self.new.tables.sinks.now }
+        ensures labels { Labels offers.now.problem.n (by_first offers.now.file.now offers.now.problem) (by_second offers.now.file.now offers.now.problem) (at prices.now.weights.now) (at prices.now.potentials.now) (marked set.now) (marked self.new.labels.reached.now) (at self.new.labels.costs.now) (at self.new.labels.steps.now) (at self.new.labels.back.now) }
+        ensures small { SmallLabels offers.now.problem.n (at prices.now.weights.now) (at prices.now.potentials.now) (marked self.new.labels.reached.now) (at self.new.labels.costs.now) (at self.new.labels.steps.now) offers.now.problem.n }
+        ensures ends { MatchOption result.end (Closed offers.now.problem.n (by_first offers.now.file.now offers.now.problem) (by_second offers.now.file.now offers.now.problem) (marked set.now) (marked self.new.dual.now)) (λ t. End offers.now.problem.n (by_second offers.now.file.now offers.now.problem) (at prices.now.weights.now) (at prices.now.potentials.now) (marked set.now) (marked self.new.labels.reached.now) (at self.new.labels.costs.now) (at self.new.labels.steps.now) t) }
+        ensures within { MatchOption result.end ((x : ℕ) → x < offers.now.problem.n → marked set.now x ≡ false → by_second offers.now.file.now offers.now.problem (with (marked set.now) x) ≡ true → marked self.new.labels.reached.now x ≡ false) (λ t. (j : ℕ) → j < at self.new.labels.steps.now t → behind (at self.new.labels.back.now) t j < offers.now.problem.n) }
+        ensures best { MatchOption result.end (Dual offers.now.problem.n (by_first offers.now.file.now offers.now.problem) (by_second offers.now.file.now offers.now.problem) (marked set.now) (marked self.new.dual.now)) (λ t. (m : ℕ) × Predecessors offers.now.problem.n (by_first offers.now.file.now offers.now.problem) (by_second offers.now.file.now offers.now.problem) (at prices.now.weights.now) (at prices.now.potentials.now) (marked set.now) (at self.new.labels.costs.now) (at self.new.labels.steps.now) (at self.new.labels.back.now) t m) }
+        ensures kept { BothKept offers.now.file.now offers.now.problem (marked set.now) (marked set.now) self.new.states.first.now self.new.states.second.now }
+    {
+        let asked = self.tables.fill(offers, set, &mut self.states);
+        let end = search(
+            offers,
+            prices,
+            set,
+            &self.tables,
+            &mut self.labels,
+            self.dual,
+        );
+        Outcome { asked, end }
+    }
 }

@@ -1,19 +1,9 @@
--- Answers from the kept state, and where its rows lie.
-use Rattle.std.proofs.Common.{◌≡◌, ℕ, suc, ◌+◌, ◌*◌, ◌<◌, ◌≤◌, true, false, not, ◌||◌, eqb, List, get_or, arith}
-use Rattle.std.proofs.lemmas.Nat.{mul-le}
-use Rattle.sets.specs.Bits.{xor, row_words}
+-- Answers from the kept state.
+use Rattle.std.proofs.Common.{◌≡◌, ℕ, ◌<◌, true, false, not, ◌||◌, eqb, List, get_or}
+use Rattle.sets.specs.Bits.{xor}
 use Rattle.sets.specs.Matroid.{Set, with, without}
-use Rattle.graphic.specs.Links.{from_town, to_town, allows, Well, Ready, in_row, kept_length}
+use Rattle.graphic.specs.Links.{from_town, to_town, allows, Well, Ready, in_row}
 use Rattle.graphic.proofs.Parity.{can_add, can_exchange}
-
--- the row of a town lies within the kept state
-pub row_fits : (w town : ℕ) → town < 600 → w * suc town + w ≤ w * 601
-row_fits w town h = omega (arith, mul-le w (town + 2) w 601 (omega arith) (omega arith))
-
--- a bit of a row lies within the kept state
-pub bit_fits : (n town at y size : ℕ) → town < 600 → y < n → kept_length n ≤ size → at ≡ 600 + row_words n * suc town →
-    32 * at + y < 32 * size
-bit_fits n town at y size h l k e = let r = row_fits (row_words n) town h in omega arith
 
 module _ (file : List ℕ) (n towns at : ℕ) (s : Set) (state : List ℕ) (w : Well file n towns at)
     (r : Ready file n towns at s state) where

@@ -21,16 +21,6 @@ pub record Merging (n old new t : ℕ) (xs ys : List ℕ) : Type 0 where
   pub rows_left : (u z : ℕ) → t ≤ u → u < 600 → z < n → in_row ys n u z ≡ in_row xs n u z
   pub work : (z : ℕ) → z < n → word_row ys 600 z ≡ word_row xs 600 z
 
--- at the start all are as they were
-pub merging_none : (n old new : ℕ) (xs : List ℕ) → Merging n old new 0 xs xs
-merging_none n old new xs = record {
-  labels_done = λ u l. absurd (omega arith);
-  rows_done = λ u z l m. absurd (omega arith);
-  labels_left = λ u l m. refl;
-  rows_left = λ u z l m o. refl;
-  work = λ z l. refl;
-}
-
 -- what one turn does: town t is done, and no other town is changed
 pub merging_turn : (n old new t : ℕ) (xs ys zs : List ℕ) → t < 600 → Merging n old new t xs ys →
     label zs t ≡ label_then xs old new t → ((z : ℕ) → z < n → in_row zs n t z ≡ row_then xs n old t z) →

@@ -56,39 +56,32 @@ wider at len p xs ys l m h k o = h k (⊎_elim (λ q. inl (omega arith)) (λ q. 
 pub twice : (at len : ℕ) (xs ys zs : List ℕ) → SameBut at len xs ys → SameBut at len ys zs → SameBut at len xs zs
 twice at len xs ys zs h k p o = k p o ∙ h p o
 
--- a place in a row and the row's town: where it lies
-pub place_fits : (n town at size : ℕ) → town < 600 → kept_length n ≤ size → at ≡ 600 + row_words n * suc town →
-    (at + row_words n ≤ size) × (600 + row_words n ≤ at)
-place_fits n town at size l k e =
-    let r = mul-le (row_words n) (town + 2) (row_words n) 601 (omega arith) (omega arith) in
-    let q = mul-le (row_words n) 1 (row_words n) (suc town) (omega arith) (omega arith) in
-    (omega arith, omega arith)
-
 -- a write to the working row leaves the labels of the towns
-pub labels_beside : (n : ℕ) (xs ys : List ℕ) → SameBut 600 (row_words n) xs ys → (t : ℕ) → t < 600 → label ys t ≡ label xs t
-labels_beside n xs ys h t l = h t (inl l)
+pub labels_beside : (len : ℕ) (xs ys : List ℕ) → SameBut 600 len xs ys → (t : ℕ) → t < 600 → label ys t ≡ label xs t
+labels_beside len xs ys h t l = h t (inl l)
 
 -- a write to the working row leaves the rows of the towns
-pub rows_beside : (n : ℕ) (xs ys : List ℕ) → SameBut 600 (row_words n) xs ys → (t z : ℕ) → z < n → in_row ys n t z ≡ in_row xs n t z
-rows_beside n xs ys h t z l =
-    row_kept n 600 (row_words n) (600 + row_words n * suc t) xs ys h
+pub rows_beside : (n len : ℕ) (xs ys : List ℕ) → len ≡ row_words n → SameBut 600 len xs ys → (t z : ℕ) → z < n →
+    in_row ys n t z ≡ in_row xs n t z
+rows_beside n len xs ys is h t z l =
+    row_kept n 600 len (600 + row_words n * suc t) xs ys h
     (inr (omega (arith, mul-le (row_words n) 1 (row_words n) (suc t) (omega arith) (omega arith)))) z l
 
 -- the working row after it was cleared, took the link x, and two rows were added to it
-pub summed : (n x u v : ℕ) (xs a b d e : List ℕ) → x < n →
-    ((j : ℕ) → j < 32 * row_words n → word_row a 600 j ≡ false) → SameBut 600 (row_words n) xs a →
+pub summed : (n len x u v : ℕ) (xs a b d e : List ℕ) → len ≡ row_words n → x < n →
+    ((j : ℕ) → j < 32 * len → word_row a 600 j ≡ false) → SameBut 600 len xs a →
     ((j : ℕ) → marked b j ≡ (marked a j || eqb j (32 * 600 + x))) → SameBut (600 + x / 32) 1 a b →
-    ((j : ℕ) → j < 32 * row_words n → word_row d 600 j ≡ xor (word_row b 600 j) (in_row b n u j)) → SameBut 600 (row_words n) b d →
-    ((j : ℕ) → j < 32 * row_words n → word_row e 600 j ≡ xor (word_row d 600 j) (in_row d n v j)) → SameBut 600 (row_words n) d e →
-    ((z : ℕ) → z < n → word_row e 600 z ≡ xor (xor (eqb z x) (in_row xs n u z)) (in_row xs n v z)) × SameBut 600 (row_words n) xs e
-summed n x u v xs a b d e l clear ra put rb one rd two re =
-    ((λ z m. joined z m), twice 600 (row_words n) xs d e below re)
+    ((j : ℕ) → j < 32 * len → word_row d 600 j ≡ xor (word_row b 600 j) (in_row b n u j)) → SameBut 600 len b d →
+    ((j : ℕ) → j < 32 * len → word_row e 600 j ≡ xor (word_row d 600 j) (in_row d n v j)) → SameBut 600 len d e →
+    ((z : ℕ) → z < n → word_row e 600 z ≡ xor (xor (eqb z x) (in_row xs n u z)) (in_row xs n v z)) × SameBut 600 len xs e
+summed n len x u v xs a b d e is l clear ra put rb one rd two re =
+    ((λ z m. joined z m), twice 600 len xs d e below re)
   where
-    first : SameBut 600 (row_words n) xs b
-    first = twice 600 (row_words n) xs a b ra (wider 600 (row_words n) (600 + x / 32) a b (omega arith) (omega arith) rb)
+    first : SameBut 600 len xs b
+    first = twice 600 len xs a b ra (wider 600 len (600 + x / 32) a b (omega arith) (omega arith) rb)
 
-    below : SameBut 600 (row_words n) xs d
-    below = twice 600 (row_words n) xs b d first rd
+    below : SameBut 600 len xs d
+    below = twice 600 len xs b d first rd
 
     bits : (z i : ℕ) → (p q : Bool) → p ≡ (q || eqb (32 * 600 + z) (32 * 600 + i)) → q ≡ false → p ≡ eqb z i
     bits z i p q h k = grind arith
@@ -101,4 +94,4 @@ summed n x u v xs a b d e l clear ra put rb one rd two re =
         sums (word_row b 600 z) (word_row d 600 z) (word_row e 600 z) (in_row b n u z) (in_row d n v z) (in_row xs n u z) (in_row xs n v z)
         (eqb z x)
         (bits z x (word_row b 600 z) (word_row a 600 z) (put (32 * 600 + z)) (clear z (omega arith)))
-        (one z (omega arith)) (two z (omega arith)) (rows_beside n xs b first u z m) (rows_beside n xs d below v z m)
+        (one z (omega arith)) (two z (omega arith)) (rows_beside n len xs b is first u z m) (rows_beside n len xs d is below v z m)

@@ -1,6 +1,6 @@
 -- The kept state: how it is built up group by group, and how the two questions are answered from it.
-use Rattle.std.proofs.Common.{◌≡◌, ℕ, ◌+◌, ◌-◌, ◌*◌, ◌^◌, ◌<◌, ◌≤◌, Bool, true, false, not, ◌&&◌, ◌||◌, eqb, ltb, List, length, get_or, sym, refl, ap, ◌∙◌, ap₂, ⊎_elim, arith}
-use lib.Bits.{bit_and, bit_or, and_lt}
+use Rattle.std.proofs.Common.{◌≡◌, ℕ, ◌+◌, ◌-◌, ◌*◌, ◌^◌, ◌<◌, ◌≤◌, Bool, true, false, not, ◌&&◌, ◌||◌, eqb, ltb, List, length, sym, refl, ap, ◌∙◌, ap₂, ⊎_elim, arith}
+use lib.Bits.{bit_and, and_lt}
 use Rattle.std.proofs.lemmas.Bool.{cases_eq, both_ways, eqb-true, eq-eqb, ne_eqb, and_parts, lt-ltb, ltb-true}
 use Rattle.sets.specs.Matroid.{Set, size, both, with, without}
 use Rattle.sets.specs.Bits.{marked, word_row}
@@ -8,14 +8,7 @@ use Rattle.sets.proofs.Masks.{bit, bit_and_lem, bit_not}
 use Rattle.laminar.specs.Limits.{limit, in_group, allows, full, kept_length, kept_at, Ready, Marked}
 use Rattle.laminar.proofs.Fits.{takes}
 use Rattle.laminar.proofs.Moves.{fits_on, add_stops, exchange_fits, exchange_stops}
-use Rattle.laminar.proofs.Kept.{words_answer, row_low, row_high}
-
--- the bits of the first two words are the first row
-head_low : (xs : List ℕ) (j : ℕ) → j < 32 → bit (get_or xs 0 0) j ≡ marked xs j
-head_low xs j l = let p : 32 * 0 + j ≡ j = omega arith in rw p at (row_low xs 0 j l)
-
-head_high : (xs : List ℕ) (j : ℕ) → j < 32 → bit (get_or xs 1 0) j ≡ marked xs (32 + j)
-head_high xs j l = let p : 32 * 0 + (32 + j) ≡ 32 + j = omega arith in rw p at (row_high xs 0 j l)
+use Rattle.laminar.proofs.Kept.{bits_answer, head_row}
 
 -- a full group that holds x, as the bits have it
 abbrev blocks : List ℕ → ℕ → Set
@@ -45,63 +38,45 @@ module _ (file : List ℕ) (n groups at : ℕ) (few : groups ≤ 64) (s : Set) (
       let q = r.masks x g l (omega arith) in
       rw (p, q, t, f, a) refl
 
-  -- the answer of can_add
-  pub add_answer : (x : ℕ) → x < n → s x ≡ false → ((i : ℕ) → get_or state i 0 < 2 ^ 32) →
-      eqb (bit_or (bit_and (get_or state 0 0) (get_or state (kept_at x) 0)) (bit_and (get_or state 1 0) (get_or state (kept_at x + 1) 0))) 0
-      ≡ allows file n groups at (with s x)
-  add_answer x l e word =
-      words_answer (bit_and (get_or state 0 0) (get_or state (kept_at x) 0)) (bit_and (get_or state 1 0) (get_or state (kept_at x + 1) 0))
-      (blocks state x) (allows file n groups at (with s x))
-      (and_lt 32 (get_or state 0 0) (get_or state (kept_at x) 0) (word 0) (word (kept_at x)))
-      (and_lt 32 (get_or state 1 0) (get_or state (kept_at x + 1) 0) (word 1) (word (kept_at x + 1)))
-      (λ j k. bit_and_lem (get_or state 0 0) (get_or state (kept_at x) 0) j ∙ ap₂ ◌&&◌ (head_low state j k) (row_low state (kept_at x) j k))
-      (λ j k. bit_and_lem (get_or state 1 0) (get_or state (kept_at x + 1) 0) j ∙ ap₂ ◌&&◌ (head_high state j k) (row_high state (kept_at x) j k))
-      (λ g k b. let p = blocking x g l k b in
-      add_stops n (in_group file n at) (limit file n at) groups s x g l e p.0 p.1 p.2)
-      (λ none. takes n (in_group file n at) (limit file n at) groups s x l e r.allowed
-      (λ g k a b. both_ways (blocks state x g) (none g (omega arith)) (blocked x g l k a b)))
+  module _ (held come x : ℕ) (lh : held < 2 ^ 64) (lc : come < 2 ^ 64) (in_held : (g : ℕ) → g < 64 → bit held g ≡ word_row state 0 g)
+      (in_come : (g : ℕ) → g < 64 → bit come g ≡ word_row state (kept_at x) g) where
+    -- the bits of the groups that block x
+    block_bit : (g : ℕ) → g < 64 → bit (bit_and held come) g ≡ blocks state x g
+    block_bit g l = bit_and_lem held come g ∙ ap₂ ◌&&◌ (in_held g l ∙ head_row state g) (in_come g l)
 
-  -- the two words of blocks_but, one below the other
-  but_bit : (u a b j : ℕ) (p q t : Bool) → b < 2 ^ 32 → j < 32 → bit u j ≡ p → bit a j ≡ q → bit b j ≡ t →
-      bit (bit_and (bit_and u a) (4294967295 - b)) j ≡ (p && q && not t)
-  but_bit u a b j p q t l k eu ea eb =
-      bit_and_lem (bit_and u a) (4294967295 - b) j ∙ ap₂ ◌&&◌ (bit_and_lem u a j ∙ ap₂ ◌&&◌ eu ea) (bit_not 32 b j l k ∙ ap not eb)
+    -- the answer of can_add
+    pub add_answer : x < n → s x ≡ false → eqb (bit_and held come) 0 ≡ allows file n groups at (with s x)
+    add_answer l e =
+        bits_answer (bit_and held come) (blocks state x) (allows file n groups at (with s x)) (and_lt 64 held come lh lc) block_bit
+        (λ g k b. let p = blocking x g l k b in
+        add_stops n (in_group file n at) (limit file n at) groups s x g l e p.0 p.1 p.2)
+        (λ none. takes n (in_group file n at) (limit file n at) groups s x l e r.allowed
+        (λ g k a b. both_ways (blocks state x g) (none g (omega arith)) (blocked x g l k a b)))
 
-  but_lt : (u a b : ℕ) → u < 2 ^ 32 → a < 2 ^ 32 → bit_and (bit_and u a) (4294967295 - b) < 2 ^ 32
-  but_lt u a b p q = and_lt 32 (bit_and u a) (4294967295 - b) (and_lt 32 u a p q) (omega arith)
+    -- the answer of can_exchange
+    pub exchange_answer : (go y : ℕ) → go < 2 ^ 64 → ((g : ℕ) → g < 64 → bit go g ≡ word_row state (kept_at y) g) →
+        x < n → s x ≡ false → y < n → s y ≡ true →
+        eqb (bit_and (bit_and held come) (2 ^ 64 - 1 - go)) 0 ≡ allows file n groups at (with (without s y) x)
+    exchange_answer go y lg in_go lx ex ly ey =
+        bits_answer (bit_and (bit_and held come) (2 ^ 64 - 1 - go)) (blocks_but state x y) (allows file n groups at (with (without s y) x))
+        (and_lt 64 (bit_and held come) (2 ^ 64 - 1 - go) (and_lt 64 held come lh lc) (omega arith))
+        (λ g k. bit_and_lem (bit_and held come) (2 ^ 64 - 1 - go) g ∙ ap₂ ◌&&◌ (block_bit g k) (bit_not 64 go g lg k ∙ ap not (in_go g k)))
+        (λ g k b.
+        let q = and_parts (blocks state x g) (not (word_row state (kept_at y) g)) b in
+        let p = blocking x g lx k q.0 in
+        let z : in_group file n at g y ≡ false =
+        out (word_row state (kept_at y) g) (ltb g groups) (in_group file n at g y) q.1 (r.masks y g ly k) (lt-ltb g groups p.0) in
+        exchange_stops n (in_group file n at) (limit file n at) groups s x y g lx ex ly ey p.0 p.1 p.2 z)
+        (λ none. exchange_fits n (in_group file n at) (limit file n at) groups s x y lx ex ly ey r.allowed
+        (λ g k a b c.
+        let z : word_row state (kept_at y) g ≡ false = r.masks y g ly (omega arith) ∙ rw c (no_and (ltb g groups)) in
+        both_ways (blocks_but state x y g) (none g (omega arith)) (rw (blocked x g lx k a b, z) refl)))
+      where
+        out : (a b c : Bool) → not a ≡ true → a ≡ (b && c) → b ≡ true → c ≡ false
+        out a b c p q t = grind arith
 
-  -- the answer of can_exchange
-  pub exchange_answer : (x y : ℕ) → x < n → s x ≡ false → y < n → s y ≡ true → ((i : ℕ) → get_or state i 0 < 2 ^ 32) →
-      eqb
-      (bit_or (bit_and (bit_and (get_or state 0 0) (get_or state (kept_at x) 0)) (4294967295 - get_or state (kept_at y) 0))
-      (bit_and (bit_and (get_or state 1 0) (get_or state (kept_at x + 1) 0)) (4294967295 - get_or state (kept_at y + 1) 0))) 0
-      ≡ allows file n groups at (with (without s y) x)
-  exchange_answer x y lx ex ly ey word =
-      words_answer (bit_and (bit_and (get_or state 0 0) (get_or state (kept_at x) 0)) (4294967295 - get_or state (kept_at y) 0))
-      (bit_and (bit_and (get_or state 1 0) (get_or state (kept_at x + 1) 0)) (4294967295 - get_or state (kept_at y + 1) 0))
-      (blocks_but state x y) (allows file n groups at (with (without s y) x))
-      (but_lt (get_or state 0 0) (get_or state (kept_at x) 0) (get_or state (kept_at y) 0) (word 0) (word (kept_at x)))
-      (but_lt (get_or state 1 0) (get_or state (kept_at x + 1) 0) (get_or state (kept_at y + 1) 0) (word 1) (word (kept_at x + 1)))
-      (λ j k. but_bit (get_or state 0 0) (get_or state (kept_at x) 0) (get_or state (kept_at y) 0) j _ _ _ (word (kept_at y)) k
-      (head_low state j k) (row_low state (kept_at x) j k) (row_low state (kept_at y) j k))
-      (λ j k. but_bit (get_or state 1 0) (get_or state (kept_at x + 1) 0) (get_or state (kept_at y + 1) 0) j _ _ _ (word (kept_at y + 1)) k
-      (head_high state j k) (row_high state (kept_at x) j k) (row_high state (kept_at y) j k))
-      (λ g k b.
-      let q = and_parts (blocks state x g) (not (word_row state (kept_at y) g)) b in
-      let p = blocking x g lx k q.0 in
-      let z : in_group file n at g y ≡ false =
-      out (word_row state (kept_at y) g) (ltb g groups) (in_group file n at g y) q.1 (r.masks y g ly k) (lt-ltb g groups p.0) in
-      exchange_stops n (in_group file n at) (limit file n at) groups s x y g lx ex ly ey p.0 p.1 p.2 z)
-      (λ none. exchange_fits n (in_group file n at) (limit file n at) groups s x y lx ex ly ey r.allowed
-      (λ g k a b c.
-      let z : word_row state (kept_at y) g ≡ false = r.masks y g ly (omega arith) ∙ rw c (no_and (ltb g groups)) in
-      both_ways (blocks_but state x y g) (none g (omega arith)) (rw (blocked x g lx k a b, z) refl)))
-    where
-      out : (a b c : Bool) → not a ≡ true → a ≡ (b && c) → b ≡ true → c ≡ false
-      out a b c p q t = grind arith
-
-      no_and : (b : Bool) → (b && false) ≡ false
-      no_and b = grind arith
+        no_and : (b : Bool) → (b && false) ≡ false
+        no_and b = grind arith
 
 -- nothing is kept of no groups
 pub ready_none : (file : List ℕ) (n at : ℕ) (s : Set) (state : List ℕ) → kept_length n ≤ length state →

@@ -1,11 +1,10 @@
 -- What is kept: words as sets of groups, and the answers that are read off them.
-use Rattle.std.proofs.Common.{◌≡◌, ℕ, zero, suc, ◌+◌, ◌-◌, ◌*◌, ◌/◌, ◌%◌, ◌^◌, ◌<◌, ◌≤◌, Bool, true, false, eqb, ◌⊎◌, List, get_or, sym, ap, ◌∙◌, inl, inr, ⊎_elim, arith}
+use Rattle.std.proofs.Common.{◌≡◌, ℕ, zero, suc, ◌+◌, ◌-◌, ◌*◌, ◌/◌, ◌%◌, ◌^◌, ◌<◌, ◌≤◌, Bool, true, false, ◌&&◌, ◌||◌, eqb, leb, List, get_or, sym, ap, ◌∙◌, ap₂, ⊎_elim, arith}
 use lib.Bits.{bit_or}
-use Rattle.std.proofs.lemmas.Nat.{or_lt}
-use Rattle.std.proofs.lemmas.Bool.{cases_lt, both_ways, eq-eqb, ne_eqb, or_cases, or_parts}
+use Rattle.std.proofs.lemmas.Bool.{cases_lt, both_ways, eq-eqb, ne_eqb, lt-ltb, lt-leb, le-leb}
 use Rattle.sets.specs.Matroid.{Set}
 use Rattle.sets.specs.Bits.{marked, word_row}
-use Rattle.sets.proofs.Masks.{bit, bit_or_lem, bit_zero, bit_shr}
+use Rattle.sets.proofs.Masks.{bit, bit_above, bit_low, bit_or_lem, bit_shl, bit_shr, bit_zero}
 use Rattle.sets.proofs.Stretches.{word_row_is}
 use Rattle.sets.proofs.FiniteSets.{look_up}
 
@@ -23,56 +22,49 @@ no_bits (suc k) v l h =
     up : (v j : ℕ) → bit v (suc j) ≡ false → bit (v / 2) j ≡ false
     up v j e = let q : 1 + j ≡ suc j = omega arith in bit_shr v 1 j ∙ rw q e
 
--- two words of 32 bits that hold the 64 bits of a set are both 0, or the set has an element
-apart_words : (u v : ℕ) (s : Set) → u < 2 ^ 32 → v < 2 ^ 32 → ((j : ℕ) → j < 32 → bit u j ≡ s j) → ((j : ℕ) → j < 32 → bit v j ≡ s (32 + j)) →
-    ((g : ℕ) × (g < 64) × (s g ≡ true) × (eqb (bit_or u v) 0 ≡ false)) ⊎ (((g : ℕ) → g < 64 → s g ≡ false) × (eqb (bit_or u v) 0 ≡ true))
-apart_words u v s a b hu hv =
+-- a number whose 64 bits are a set is 0 just where the set is empty: the test for 0, where it decides a fact
+pub bits_answer : (v : ℕ) (s : Set) (ok : Bool) → v < 2 ^ 64 → ((g : ℕ) → g < 64 → bit v g ≡ s g) →
+    ((g : ℕ) → g < 64 → s g ≡ true → ok ≡ false) → (((g : ℕ) → g < 64 → s g ≡ false) → ok ≡ true) → eqb v 0 ≡ ok
+bits_answer v s ok l bits stop go =
     ⊎_elim
-    (λ (w : (j : ℕ) × (j < 32) × (bit (bit_or u v) j ≡ true)).
-    let no_zero : eqb (bit_or u v) 0 ≡ false = set_bit (bit_or u v) w.0 w.2 in
-    ⊎_elim
-    (λ (e : bit u w.0 ≡ true). inl (w.0, omega (arith, w.1), sym (hu w.0 w.1) ∙ e, no_zero))
-    (λ (e : bit v w.0 ≡ true). inl (32 + w.0, omega (arith, w.1), sym (hv w.0 w.1) ∙ e, no_zero))
-    (or_cases (bit u w.0) (bit v w.0) (sym (bit_or_lem u v w.0) ∙ w.2)))
-    (λ (h : (j : ℕ) → j < 32 → bit (bit_or u v) j ≡ false).
-    let z = no_bits 32 (bit_or u v) (or_lt 32 u v a b) h in
-    let none : (j : ℕ) → j < 32 → (bit u j ≡ false) × (bit v j ≡ false) = λ j l. or_parts (bit u j) (bit v j) (sym (bit_or_lem u v j) ∙ h j l) in
-    inr (
-      (λ g l. ⊎_elim
-          (λ (k : g < 32). sym (hu g k) ∙ (none g k).0)
-          (λ (k : 32 ≤ g).
-          let q : 32 + (g - 32) ≡ g = omega arith in
-          let m : g - 32 < 32 = omega arith in
-          rw q at (sym (hv (g - 32) m) ∙ (none (g - 32) m).1))
-          (cases_lt g 32)),
-      eq-eqb (bit_or u v) 0 z,
-    ))
-    (look_up 32 (bit (bit_or u v)))
-  where
-    set_bit : (w j : ℕ) → bit w j ≡ true → eqb w 0 ≡ false
-    set_bit w j e = ne_eqb w 0 (λ z. both_ways (bit w j) (rw z (bit_zero j)) e)
-
--- the test on the two words, where it decides a fact
-pub words_answer : (u v : ℕ) (s : Set) (ok : Bool) → u < 2 ^ 32 → v < 2 ^ 32 → ((j : ℕ) → j < 32 → bit u j ≡ s j) → ((j : ℕ) → j < 32 → bit v j ≡ s (32 + j)) →
-    ((g : ℕ) → g < 64 → s g ≡ true → ok ≡ false) → (((g : ℕ) → g < 64 → s g ≡ false) → ok ≡ true) → eqb (bit_or u v) 0 ≡ ok
-words_answer u v s ok a b hu hv stop go =
-    ⊎_elim
-    (λ (w : (g : ℕ) × (g < 64) × (s g ≡ true) × (eqb (bit_or u v) 0 ≡ false)). w.3 ∙ sym (stop w.0 w.1 w.2))
-    (λ (w : ((g : ℕ) → g < 64 → s g ≡ false) × (eqb (bit_or u v) 0 ≡ true)). w.1 ∙ sym (go w.0))
-    (apart_words u v s a b hu hv)
+    (λ (w : (g : ℕ) × (g < 64) × (s g ≡ true)).
+    ne_eqb v 0 (λ z. both_ways (bit v w.0) (rw z (bit_zero w.0)) (bits w.0 w.1 ∙ w.2)) ∙ sym (stop w.0 w.1 w.2))
+    (λ (h : (g : ℕ) → g < 64 → s g ≡ false). eq-eqb v 0 (no_bits 64 v l (λ g k. bits g k ∙ h g k)) ∙ sym (go h))
+    (look_up 64 s)
 
 -- the low and the high half of a row of 64 bits are its two words
-pub row_low : (xs : List ℕ) (at j : ℕ) → j < 32 → bit (get_or xs at 0) j ≡ word_row xs at j
+row_low : (xs : List ℕ) (at j : ℕ) → j < 32 → bit (get_or xs at 0) j ≡ word_row xs at j
 row_low xs at j l =
     let p : at + j / 32 ≡ at = omega arith in
     let q : j % 32 ≡ j = omega arith in
     sym (rw (p, q) at (word_row_is xs at j))
 
-pub row_high : (xs : List ℕ) (at j : ℕ) → j < 32 → bit (get_or xs (at + 1) 0) j ≡ word_row xs at (32 + j)
+row_high : (xs : List ℕ) (at j : ℕ) → j < 32 → bit (get_or xs (at + 1) 0) j ≡ word_row xs at (32 + j)
 row_high xs at j l =
     let p : at + (32 + j) / 32 ≡ at + 1 = omega arith in
     let q : (32 + j) % 32 ≡ j = omega arith in
     sym (rw (p, q) at (word_row_is xs at (32 + j)))
+
+-- two words, the second above the first, hold the 64 bits of their row
+pub two_words : (xs : List ℕ) (at g : ℕ) → get_or xs at 0 < 2 ^ 32 → g < 64 →
+    bit (bit_or (get_or xs at 0) (get_or xs (at + 1) 0 * 2 ^ 32 % 2 ^ 64)) g ≡ word_row xs at g
+two_words xs at g l k =
+    let u = get_or xs at 0 in
+    let v = get_or xs (at + 1) 0 in
+    bit_or_lem u (v * 2 ^ 32 % 2 ^ 64) g ∙ ap (λ b. bit u g || b) (bit_low (v * 2 ^ 32) 64 g ∙ ap₂ ◌&&◌ (lt-ltb g 64 k) (bit_shl v 32 g)) ∙
+    ⊎_elim
+    (λ (h : g < 32). first (bit u g) (leb 32 g) (bit v (g - 32)) (lt-leb 32 g h) ∙ row_low xs at g h)
+    (λ (h : 32 ≤ g).
+    let z : 32 + (g - 32) ≡ g = omega arith in
+    let m : g - 32 < 32 = omega arith in
+    second (bit u g) (leb 32 g) (bit v (g - 32)) (bit_above u 32 g l h) (le-leb 32 g h) ∙ rw z at (row_high xs at (g - 32) m))
+    (cases_lt g 32)
+  where
+    first : (a b c : Bool) → b ≡ false → (a || (true && (b && c))) ≡ a
+    first a b c e = grind arith
+
+    second : (a b c : Bool) → a ≡ false → b ≡ true → (a || (true && (b && c))) ≡ c
+    second a b c e f = grind arith
 
 -- the row from word 0 on is the whole
 pub head_row : (xs : List ℕ) (j : ℕ) → word_row xs 0 j ≡ marked xs j

@@ -4,6 +4,7 @@ pub mod Kept
 pub mod Laws
 pub mod Moves
 pub mod Nested
+pub mod Ranges
 pub mod Reading
 pub mod Sizes
 pub mod Steps

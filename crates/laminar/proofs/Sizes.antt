@@ -1,5 +1,5 @@
 -- Sizes of the part of a set that lies in a group.
-use Rattle.std.proofs.Common.{◌≡◌, ℕ, ◌+◌, ◌<◌, true, false, ◌∙◌, ⊎_elim, add-one, arith}
+use Rattle.std.proofs.Common.{◌≡◌, ℕ, ◌+◌, ◌<◌, true, false, ◌∙◌, ⊎_elim, arith}
 use Rattle.std.proofs.lemmas.Bool.{cases_Bool}
 use Rattle.sets.specs.Matroid.{Set, pick, size, both, with, without, none}
 use Rattle.sets.proofs.FiniteSets.{size_same, size_none, size_with, size_without}
@@ -33,10 +33,3 @@ part_without n a s x l e =
     let p = size_same n (both a (without s x)) (both a s) (λ z k. grind arith) in
     grind arith)
     (cases_Bool (a x))
-
--- one more element looked at: it is in the set, or it is not
-pub size_in : (k : ℕ) (a : Set) (held : ℕ) → held ≡ size k a → a k ≡ true → held + 1 ≡ size (k + 1) a
-size_in k a held p q = simp add-one (grind arith)
-
-pub size_out : (k : ℕ) (a : Set) (held : ℕ) → held ≡ size k a → a k ≡ false → held ≡ size (k + 1) a
-size_out k a held p q = simp add-one (grind arith)

@@ -1,15 +1,10 @@
 -- Steps of the loops that read a rule: one more element, one more group.
-use Rattle.std.proofs.Common.{◌≡◌, ℕ, zero, suc, ◌+◌, ◌<◌, ◌≤◌, Bool, true, false, cond, ◌||◌, ltb, List, length, Ok, Err, Result, sym, refl, ◌∙◌, subst, ⊎_elim, add-one, arith}
+use Rattle.std.proofs.Common.{◌≡◌, ℕ, zero, suc, ◌+◌, ◌<◌, ◌≤◌, Bool, true, false, cond, ltb, List, length, Ok, Err, Result, sym, refl, ◌∙◌, subst, ⊎_elim, add-one, arith}
 use Rattle.std.proofs.lemmas.Nat.{mul-le}
 use Rattle.std.proofs.lemmas.Bool.{cases_eq, ltb-false, lt-leb, le-ltb}
 use Rattle.sets.specs.declared.refusal.Refusal.{Refusal}
-use Rattle.sets.specs.Matroid.{Set}
 use Rattle.laminar.specs.Limits.{group_bytes, group_at, limit}
-use Rattle.laminar.specs.Reading.{some, overlaps_below, has_stray, then, read_group, read_groups, read, count}
-
--- one more element looked at
-pub some_more : (k : ℕ) (s : Set) (a b : Bool) → a ≡ some k s → b ≡ s k → (a || b) ≡ some (k + 1) s
-some_more k s a b p q = simp add-one (grind arith)
+use Rattle.laminar.specs.Reading.{overlaps_below, has_stray, then, read_group, read_groups, read, count}
 
 -- an earlier group ends before a later one begins
 pub ends_before : (n at h g : ℕ) → h < g → group_at n at h + group_bytes n ≤ group_at n at g

@@ -3,124 +3,218 @@
 // byte first, and a row of bits, bit i for offer i.
 #![tactic(auto)]
 
-ghost use Rattle.std.specs.Prelude.{◌≡◌, ◌+◌, ◌-◌, ◌*◌, ◌/◌, ◌^◌, ◌<◌, ◌≤◌, true, false, length};
-ghost use Rattle.sets.specs.Bits.{row, row_bytes, row_words, marked};
-ghost use Rattle.sets.specs.Matroid.{size, both, with, without};
+ghost use Rattle.std.specs.Prelude.{◌≡◌, ℕ, ◌+◌, ◌-◌, ◌*◌, ◌/◌, ◌%◌, ◌^◌, ◌<◌, ◌≤◌, true, false, length, ◌==◌};
+ghost use Rattle.sets.specs.Bits.{row, row_bytes, row_words, word_row, marked};
+ghost use Rattle.sets.specs.Matroid.{size, both, outside, with, without};
 ghost use Rattle.laminar.specs.Limits.{group_bytes, group_at, limit, in_group, allows, kept_length, Well, Ready, Marked, ReadingAgrees, LimitsMatroid};
-ghost use Rattle.laminar.specs.Reading.{read, read_group, overlaps, overlaps_below, has_stray, ReadsWell, RefusesFirst};
+ghost use Rattle.laminar.specs.Reading.{read, read_group, overlaps, overlaps_below, has_stray, some, ReadsWell, RefusesFirst};
 
-use sets::numbers::read_u16;
 use sets::refusal::{Refusal, Source};
-use sets::{bytes, words};
+use sets::{bits, numbers};
 
-// How many bytes a row of n bits takes.
-fn row_bytes(n: usize) -> usize
-    requires { n ≤ 600 }
-    ensures { result ≡ row_bytes n }
+// The groups kept in the two words from word `at` on, as one number: bit g stands for group g.
+fn kept_groups(state: &[u32], at: usize) -> u64
+    requires { at + 2 ≤ length state.now }
+    ensures { (g : ℕ) → g < 64 → (result / 2 ^ g % 2 == 1) ≡ word_row state.now at g }
 {
-    (n + 7) / 8
+    (state[at] as u64) | ((state[at + 1] as u64) << 32)
 }
 
-// How many bytes a group takes.
-fn group_bytes(n: usize) -> usize
-    requires { n ≤ 600 }
-    ensures { result ≡ group_bytes n }
-{
-    2 + row_bytes(n)
+// A rule of limits as it lies in the file: for n offers, so many groups, from byte `at` on.
+// That it is well-formed stands in clauses and not here: `Well` tells for two groups which lies in the other, and a ghost
+// field has to be a fact that has one proof at most.
+#[derive(Clone, Copy)]
+pub struct Limits<'a> {
+    pub file: &'a [u8],
+    pub n: usize,
+    pub groups: usize,
+    pub at: usize,
+    ghost few: { n ≤ 600 },
 }
 
-// Where group g begins.
-fn group_at(n: usize, at: usize, g: usize) -> usize
-    requires { (n ≤ 600) × (group_at n at g < 2 ^ 64) }
-    ensures { result ≡ group_at n at g }
-{
-    at + g * group_bytes(n)
-}
+impl Limits<'_> {
+    // How many bytes the row of a group takes.
+    fn row_bytes(&self) -> usize
+        ensures { result ≡ row_bytes self.now.n }
+    {
+        self.n.div_ceil(8)
+    }
 
-// Do the two groups whose rows begin at bytes `a` and `b` share an offer, while each has one that the other lacks?
-fn overlap(file: &[u8], n: usize, a: usize, b: usize) -> bool
-    requires { (n ≤ 600) × ((a + row_bytes n ≤ length file.now) × (b + row_bytes n ≤ length file.now)) }
-    ensures { result ≡ overlaps n (row file.now a) (row file.now b) }
-{
-    let mut shared = false;
-    // Has the first group, and has the second, an offer that the other lacks?
-    let mut first = false;
-    let mut second = false;
-    for i in 0..n {
-        let in_a = bytes::contains(file, a, i);
-        let in_b = bytes::contains(file, b, i);
-        shared = shared | (in_a & in_b);
-        first = first | (in_a & !in_b);
-        second = second | (in_b & !in_a);
+    // How many bytes a group takes.
+    fn group_bytes(&self) -> usize
+        ensures { result ≡ group_bytes self.now.n }
+    {
+        2 + self.row_bytes()
     }
-    shared & first & second
-}
 
-// The limit of group g.
-pub fn limit(file: &[u8], n: usize, at: usize, g: usize) -> usize
-    requires { (n ≤ 600) × (group_at n at g + 2 ≤ length file.now) }
-    ensures { result ≡ limit file.now n at g }
-{
-    read_u16(file, group_at(n, at, g)) as usize
-}
+    // Where group g begins.
+    fn group_at(&self, g: usize) -> usize
+        requires { group_at self.now.n self.now.at g < 2 ^ 64 }
+        ensures { result ≡ group_at self.now.n self.now.at g }
+    {
+        self.at + g * self.group_bytes()
+    }
 
-// Is offer i in group g?
-pub fn in_group(file: &[u8], n: usize, at: usize, g: usize, i: usize) -> bool
-    requires { (n ≤ 600) × ((i < n) × (group_at n at g + group_bytes n ≤ length file.now)) }
-    ensures { result ≡ in_group file.now n at g i }
-{
-    bytes::contains(file, group_at(n, at, g) + 2, i)
-}
+    // The limit of group g.
+    pub fn limit(&self, g: usize) -> usize
+        requires { group_at self.now.n self.now.at g + 2 ≤ length self.now.file.now }
+        ensures { result ≡ limit self.now.file.now self.now.n self.now.at g }
+    {
+        numbers::read::<2>(self.file, self.group_at(g)) as usize
+    }
 
-// Does group g overlap an earlier one?
-fn overlaps_earlier(file: &[u8], n: usize, at: usize, g: usize) -> bool
-    requires { (n ≤ 600) × (group_at n at g + group_bytes n ≤ length file.now) }
-    ensures { result ≡ overlaps_below file.now n at g g }
-{
-    let mut found = false;
-    for h in 0..g {
-        found = found | overlap(file, n, group_at(n, at, h) + 2, group_at(n, at, g) + 2);
+    // Is offer i in group g?
+    pub fn in_group(&self, g: usize, i: usize) -> bool
+        requires offer { i < self.now.n }
+        requires within { group_at self.now.n self.now.at g + group_bytes self.now.n ≤ length self.now.file.now }
+        ensures { result ≡ in_group self.now.file.now self.now.n self.now.at g i }
+    {
+        bits::contains(self.file, self.group_at(g) + 2, i)
     }
-    found
-}
 
-// Is a bit behind the last offer set in group g?
-fn has_stray_bit(file: &[u8], n: usize, at: usize, g: usize) -> bool
-    requires { (n ≤ 600) × (group_at n at g + group_bytes n ≤ length file.now) }
-    ensures { result ≡ has_stray file.now n at g }
-{
-    let place = group_at(n, at, g) + 2;
-    let behind = 8 * row_bytes(n) - n;
-    let mut found = false;
-    for k in 0..behind {
-        found = found | bytes::contains(file, place, n + k);
+    // Do groups g and h share an offer?
+    fn share(&self, g: usize, h: usize) -> bool
+        requires first { group_at self.now.n self.now.at g + group_bytes self.now.n ≤ length self.now.file.now }
+        requires second { group_at self.now.n self.now.at h + group_bytes self.now.n ≤ length self.now.file.now }
+        ensures { result ≡ some self.now.n (both (in_group self.now.file.now self.now.n self.now.at g) (in_group self.now.file.now self.now.n self.now.at h)) }
+    {
+        (0..self.n).any(|i| self.in_group(g, i) && self.in_group(h, i))
     }
-    found
-}
 
-// Checks group g: its limit, that all of it is there, that it overlaps no earlier group, and that no bit behind the last offer is set.
-fn check_group(file: &[u8], n: usize, at: usize, g: usize) -> Result<(), Refusal>
-    requires { (n ≤ 600) × (group_at n at g ≤ length file.now) }
-    ensures { result ≡ read_group file.now n at g }
-{
-    let place = group_at(n, at, g);
-    let left = file.len() - place;
-    if left < 2 {
-        return Err(Refusal::Length(Source::Offers, file.len()));
+    // Has group g an offer that group h lacks?
+    fn sticks_out(&self, g: usize, h: usize) -> bool
+        requires first { group_at self.now.n self.now.at g + group_bytes self.now.n ≤ length self.now.file.now }
+        requires second { group_at self.now.n self.now.at h + group_bytes self.now.n ≤ length self.now.file.now }
+        ensures { result ≡ some self.now.n (outside (in_group self.now.file.now self.now.n self.now.at g) (in_group self.now.file.now self.now.n self.now.at h)) }
+    {
+        (0..self.n).any(|i| self.in_group(g, i) && !self.in_group(h, i))
     }
-    if limit(file, n, at, g) > 600 {
-        return Err(Refusal::Range(Source::Offers, place));
+
+    // Do groups g and h share an offer, while each has one that the other lacks?
+    fn overlap(&self, g: usize, h: usize) -> bool
+        requires first { group_at self.now.n self.now.at g + group_bytes self.now.n ≤ length self.now.file.now }
+        requires second { group_at self.now.n self.now.at h + group_bytes self.now.n ≤ length self.now.file.now }
+        ensures { result ≡ overlaps self.now.n (in_group self.now.file.now self.now.n self.now.at g) (in_group self.now.file.now self.now.n self.now.at h) }
+    {
+        self.share(g, h) && self.sticks_out(g, h) && self.sticks_out(h, g)
     }
-    if left < group_bytes(n) {
-        return Err(Refusal::Length(Source::Offers, file.len()));
+
+    // Does group g overlap an earlier one?
+    fn overlaps_earlier(&self, g: usize) -> bool
+        requires { group_at self.now.n self.now.at g + group_bytes self.now.n ≤ length self.now.file.now }
+        ensures { result ≡ overlaps_below self.now.file.now self.now.n self.now.at g g }
+    {
+        (0..g).any(|h| self.overlap(h, g))
     }
-    if overlaps_earlier(file, n, at, g) {
-        return Err(Refusal::Overlap(place));
+
+    // Is a bit behind the last offer set in group g?
+    fn has_stray_bit(&self, g: usize) -> bool
+        requires { group_at self.now.n self.now.at g + group_bytes self.now.n ≤ length self.now.file.now }
+        ensures { result ≡ has_stray self.now.file.now self.now.n self.now.at g }
+    {
+        let place = self.group_at(g) + 2;
+        (self.n..8 * self.row_bytes()).any(|i| bits::contains(self.file, place, i))
     }
-    if has_stray_bit(file, n, at, g) {
-        return Err(Refusal::Range(Source::Offers, place + 1 + row_bytes(n)));
+
+    // Checks group g: its limit, that all of it is there, that it overlaps no earlier group, and that no bit behind the last offer is set.
+    fn check_group(&self, g: usize) -> Result<(), Refusal>
+        requires { group_at self.now.n self.now.at g ≤ length self.now.file.now }
+        ensures { result ≡ read_group self.now.file.now self.now.n self.now.at g }
+    {
+        let place = self.group_at(g);
+        let left = self.file.len() - place;
+        if left < 2 {
+            return Err(Refusal::Length(Source::Offers, self.file.len()));
+        }
+        if self.limit(g) > 600 {
+            return Err(Refusal::Range(Source::Offers, place));
+        }
+        if left < self.group_bytes() {
+            return Err(Refusal::Length(Source::Offers, self.file.len()));
+        }
+        if self.overlaps_earlier(g) {
+            return Err(Refusal::Overlap(place));
+        }
+        if self.has_stray_bit(g) {
+            return Err(Refusal::Range(Source::Offers, place + 1 + self.row_bytes()));
+        }
+        Ok(())
     }
-    Ok(())
+
+    // How many offers of group g are in the set.
+    fn count_group(&self, g: usize, set: &[u32]) -> usize
+        requires within { group_at self.now.n self.now.at g + group_bytes self.now.n ≤ length self.now.file.now }
+        requires room { row_words self.now.n ≤ length set.now }
+        ensures { result ≡ size self.now.n (both (in_group self.now.file.now self.now.n self.now.at g) (marked set.now)) }
+    {
+        (0..self.n)
+            .filter(|&i| self.in_group(g, i) && bits::contains(set, 0, i))
+            .count()
+    }
+
+    // Notes group g with each of its offers.
+    fn mark_group(&self, g: usize, state: &mut [u32])
+        requires low { g < 64 }
+        requires within { group_at self.now.n self.now.at g + group_bytes self.now.n ≤ length self.now.file.now }
+        requires room { kept_length self.now.n ≤ length state.old }
+        ensures { Marked self.now.file.now self.now.n self.now.at g self.now.n state.old state.new }
+    {
+        for i in 0..self.n {
+            if self.in_group(g, i) {
+                bits::insert(state, 2 + 2 * i, g);
+            }
+        }
+    }
+
+    // Is the set allowed? Where it is, `state` afterwards holds what is kept for the set; where it is not, what `state` holds is free.
+    // A bool and no Option, since what is kept lies in lent memory.
+    #[tactic(auto, using(crate::proofs::Steps::ends_before))]
+    pub fn independent(&self, set: &[u32], state: &mut [u32]) -> bool
+        requires well { Well self.now.file.now self.now.n self.now.groups self.now.at }
+        requires room { (row_words self.now.n ≤ length set.now) × (kept_length self.now.n ≤ length state.old) }
+        ensures answers { result ≡ allows self.now.file.now self.now.n self.now.groups self.now.at (marked set.now) }
+        ensures kept { result ≡ true → Ready self.now.file.now self.now.n self.now.groups self.now.at (marked set.now) state.new }
+    {
+        bits::clear(state, 0, 2 + 2 * self.n);
+        for g in 0..self.groups {
+            let held = self.count_group(g, set);
+            let most = self.limit(g);
+            if held > most {
+                return false;
+            }
+            self.mark_group(g, state);
+            if held == most {
+                bits::insert(state, 0, g);
+            }
+        }
+        true
+    }
+
+    // May x, which is not in the set, be added to it? Just where no full group holds x.
+    pub fn can_add(&self, set: &[u32], state: &[u32], x: usize) -> bool
+        requires well { Well self.now.file.now self.now.n self.now.groups self.now.at }
+        requires ready { Ready self.now.file.now self.now.n self.now.groups self.now.at (marked set.now) state.now }
+        requires outside { (x < self.now.n) × (marked set.now x ≡ false) }
+        ensures { result ≡ allows self.now.file.now self.now.n self.now.groups self.now.at (with (marked set.now) x) }
+    {
+        let full = kept_groups(state, 0);
+        let come = kept_groups(state, 2 + 2 * x);
+        full & come == 0
+    }
+
+    // May x, which is not in the set, come for y, which is? Just where each full group that holds x holds y.
+    pub fn can_exchange(&self, set: &[u32], state: &[u32], x: usize, y: usize) -> bool
+        requires well { Well self.now.file.now self.now.n self.now.groups self.now.at }
+        requires ready { Ready self.now.file.now self.now.n self.now.groups self.now.at (marked set.now) state.now }
+        requires outside { (x < self.now.n) × (marked set.now x ≡ false) }
+        requires inside { (y < self.now.n) × (marked set.now y ≡ true) }
+        ensures { result ≡ allows self.now.file.now self.now.n self.now.groups self.now.at (with (without (marked set.now) y) x) }
+    {
+        let full = kept_groups(state, 0);
+        let come = kept_groups(state, 2 + 2 * x);
+        let go = kept_groups(state, 2 + 2 * y);
+        full & come & !go == 0
+    }
 }
 
 // Reads the rule whose count of groups stands at byte p: the number of groups of a well-formed rule, or its first fault.
@@ -135,107 +229,16 @@ pub fn read(file: &[u8], n: usize, p: usize) -> Result<usize, Refusal>
     if groups > 64 {
         return Err(Refusal::Range(Source::Offers, p));
     }
+    let rule = Limits {
+        file,
+        n,
+        groups,
+        at: p + 1,
+    };
     for g in 0..groups {
-        check_group(file, n, p + 1, g)?;
+        rule.check_group(g)?;
     }
     Ok(groups)
-}
-
-// How many offers of group g are in the set.
-fn count_group(file: &[u8], n: usize, at: usize, g: usize, set: &[u32]) -> usize
-    requires { (n ≤ 600) × ((group_at n at g + group_bytes n ≤ length file.now) × (row_words n ≤ length set.now)) }
-    ensures { result ≡ size n (both (in_group file.now n at g) (marked set.now)) }
-{
-    let mut held = 0;
-    for i in 0..n {
-        let both = in_group(file, n, at, g, i) & words::contains(set, 0, i);
-        if both {
-            held += 1;
-        }
-    }
-    held
-}
-
-// Notes group g with each of its offers.
-fn mark_group(file: &[u8], n: usize, at: usize, g: usize, state: &mut [u32])
-    requires { (n ≤ 600) × ((g < 64) × ((group_at n at g + group_bytes n ≤ length file.now) × (kept_length n ≤ length state.old))) }
-    ensures { Marked file.now n at g n state.old state.new }
-{
-    for i in 0..n {
-        if in_group(file, n, at, g, i) {
-            words::insert(state, 2 + 2 * i, g);
-        }
-    }
-}
-
-// Is the set allowed? Where it is, `state` afterwards holds what is kept for the set; where it is not, what `state` holds is free.
-pub fn independent(
-    file: &[u8],
-    n: usize,
-    groups: usize,
-    at: usize,
-    set: &[u32],
-    state: &mut [u32],
-) -> bool
-    requires well { (Well file.now n groups at) × (n ≤ 600) }
-    requires room { (row_words n ≤ length set.now) × (kept_length n ≤ length state.old) }
-    ensures answers { result ≡ allows file.now n groups at (marked set.now) }
-    ensures kept { result ≡ true → Ready file.now n groups at (marked set.now) state.new }
-{
-    words::clear_row(state, 0, 2 + 2 * n);
-    for g in 0..groups {
-        let held = count_group(file, n, at, g, set);
-        let most = limit(file, n, at, g);
-        if held > most {
-            return false;
-        }
-        mark_group(file, n, at, g, state);
-        if held == most {
-            words::insert(state, 0, g);
-        }
-    }
-    true
-}
-
-// May x, which is not in the set, be added to it? Just where no full group holds x.
-pub fn can_add(
-    file: &[u8],
-    n: usize,
-    groups: usize,
-    at: usize,
-    set: &[u32],
-    state: &[u32],
-    x: usize,
-) -> bool
-    requires well { (Well file.now n groups at) × (n ≤ 600) }
-    requires ready { Ready file.now n groups at (marked set.now) state.now }
-    requires outside { (x < n) × (marked set.now x ≡ false) }
-    ensures { result ≡ allows file.now n groups at (with (marked set.now) x) }
-{
-    let come = 2 + 2 * x;
-    (state[0] & state[come]) | (state[1] & state[come + 1]) == 0
-}
-
-// May x, which is not in the set, come for y, which is? Just where each full group that holds x holds y.
-pub fn can_exchange(
-    file: &[u8],
-    n: usize,
-    groups: usize,
-    at: usize,
-    set: &[u32],
-    state: &[u32],
-    x: usize,
-    y: usize,
-) -> bool
-    requires well { (Well file.now n groups at) × (n ≤ 600) }
-    requires ready { Ready file.now n groups at (marked set.now) state.now }
-    requires outside { (x < n) × (marked set.now x ≡ false) }
-    requires inside { (y < n) × (marked set.now y ≡ true) }
-    ensures { result ≡ allows file.now n groups at (with (without (marked set.now) y) x) }
-{
-    let come = 2 + 2 * x;
-    let go = 2 + 2 * y;
-    (state[0] & state[come] & !state[go]) | (state[1] & state[come + 1] & !state[go + 1]) == 0
 }
 
 // A set is allowed just where it has no more of any group than its limit.

@@ -1,7 +1,9 @@
 -- What the kept state answers.
-use Rattle.std.proofs.Common.{◌≡◌, ℕ, ◌+◌, ◌*◌, ◌%◌, ◌<◌, ◌≤◌, Bool, true, false, not, ◌||◌, eqb, List, length, get_or, set, sym, refl, ap, ◌∙◌, ⊎_elim, arith}
+use Rattle.std.proofs.Common.{◌≡◌, ℕ, ◌+◌, ◌*◌, ◌%◌, ◌<◌, ◌≤◌, Bool, true, false, not, ◌||◌, eqb, Option, Some, None, MatchOption, List, length, get_or, set, sym, refl, ap, ◌∙◌, ⊎_elim, arith}
 use Rattle.std.proofs.lemmas.List.{get_or-set_same, get_or-set_other}
-use Rattle.std.proofs.lemmas.Bool.{cases_eq, cases_Bool, both_ways, eqb-true, eq-eqb}
+use Rattle.std.proofs.lemmas.Bool.{cases_eq, cases_Bool, both_ways, eqb-true, eq-eqb, not-true, not-false}
+use Rattle.std.specs.Option.{is_some}
+use mir.Val.{bool_byte}
 use Rattle.sets.specs.Matroid.{Set, pick, with, without}
 use Rattle.sets.specs.Closure.{free}
 use Rattle.sets.proofs.ClosureTheorem.{free_each, free_all, free_adds, free_exchanges}
@@ -12,10 +14,6 @@ use Rattle.linear.proofs.Span.{spans_member, spans_through, spanned_gives}
 use Rattle.linear.proofs.DualBasis.{rest_spans, spans_rest, dual_free, without_gives, without_spans}
 use Rattle.linear.proofs.Insertion.{dot_first}
 use Rattle.linear.proofs.Laws.{prime_pos, span_gives, span_from, span_closure}
-
--- two tests that are true together are equal
-pub alike : (a b : Bool) → (a ≡ true → b ≡ true) → (b ≡ true → a ≡ true) → a ≡ b
-alike a b f g = grind arith
 
 -- where the first part of an `or` is true, it decides
 pub or_first : (b z a : Bool) → b ≡ true → (b || z) ≡ a → b ≡ a
@@ -64,6 +62,17 @@ flags_more f xs x v in_xs e old y h =
     (λ (q : y ≡ x → ⊥). get_or-set_other xs (65 * x + 64) (65 * y + 64) v 0 (λ (r : 65 * y + 64 ≡ 65 * x + 64). q (omega arith)) ∙ old y (omega arith))
     (cases_eq y x)
 
+-- the column is the first that is not zero
+abbrev pub FirstColumn : List ℕ → ℕ → Option ℕ → Type 0
+FirstColumn sum long column =
+    MatchOption column ((j : ℕ) → j < long → get_or sum j 0 ≡ 0)
+    (λ q. (q < long) × ((j : ℕ) → j < q → get_or sum j 0 ≡ 0) × (get_or sum q 0 ≡ 0 → ⊥))
+
+-- a flag is 1 or 0
+pub flag_number : (b : Bool) → bool_byte b ≡ pick b 1 0
+flag_number true = refl
+flag_number false = refl
+
 module _ (file : List ℕ) (n prime long at : ℕ) (well : Well file n prime long at) (s : Set) where
   -- the rows of the file
   rows : ℕ → ℕ → ℕ
@@ -71,31 +80,22 @@ module _ (file : List ℕ) (n prime long at : ℕ) (well : Well file n prime lon
 
   -- the row x is spanned just where its rest has no column that is not zero
   pub rest_decides :
-      (state sum : List ℕ) (x q : ℕ) → Dual prime long (number file long at) (functional state) n s →
+      (state sum : List ℕ) (x : ℕ) (column : Option ℕ) (none : Bool) → Dual prime long (number file long at) (functional state) n s →
       ((j : ℕ) → j < long → get_or sum j 0 ≡ rest prime long (number file long at) (functional state) n s (number file long at x) j % prime) →
-      q ≤ long → ((j : ℕ) → j < q → get_or sum j 0 ≡ 0) → (q < long → get_or sum q 0 ≡ 0 → ⊥) → eqb q long ≡ span file n prime long at s x
+      FirstColumn sum long column → is_some column ≡ not none → none ≡ span file n prime long at s x
   unfolding rows
-  rest_decides state sum x q d is_rest within zeros found = alike (eqb q long) (span file n prime long at s x) forth back
-    where
-      r : ℕ → ℕ
-      r = rest prime long rows (functional state) n s (rows x)
-
-      forth : eqb q long ≡ true → span file n prime long at s x ≡ true
-      forth e =
-          let f : q ≡ long = eqb-true q long e in
-          span_from file n prime long at well s x
-          (rest_spans prime long rows (functional state) n s well.is_prime.0 d (rows x)
-          (λ j h. rest_null prime (r j) (sym (is_rest j h) ∙ zeros j (omega arith))))
-
-      back : span file n prime long at s x ≡ true → eqb q long ≡ true
-      back h =
-          eq-eqb q long
-          (⊎_elim (λ (e : q ≡ long). e)
-          (λ (ne : q ≡ long → ⊥).
-          let low : q < long = omega arith in
-          absurd (found low (is_rest q low ∙ null_rest prime (r q) (prime_pos file n prime long at well)
-          (spans_rest prime long rows (functional state) n s well.is_prime.0 d (rows x) (span_gives file n prime long at well s x h) q low))))
-          (cases_eq q long))
+  rest_decides state sum x None none d is_rest zeros e =
+      not-false none (sym e)
+      ∙ sym (span_from file n prime long at well s x
+      (rest_spans prime long rows (functional state) n s well.is_prime.0 d (rows x)
+      (λ j h. rest_null prime (rest prime long rows (functional state) n s (rows x) j) (sym (is_rest j h) ∙ zeros j h))))
+  rest_decides state sum x (Some q) none d is_rest found e =
+      not-true none (sym e)
+      ∙ sym (⊎_elim
+      (λ y.
+      absurd (found.2 (is_rest q found.0 ∙ null_rest prime (rest prime long rows (functional state) n s (rows x) q) (prime_pos file n prime long at well)
+      (spans_rest prime long rows (functional state) n s well.is_prime.0 d (rows x) (span_gives file n prime long at well s x y) q found.0))))
+      (λ y. y) (cases_Bool (span file n prime long at s x)))
 
   -- a dual basis of the whole set shows that it is allowed
   pub dual_allows : (fs : ℕ → ℕ → ℕ) → Dual prime long (number file long at) fs n s → allows file n prime long at s ≡ true

@@ -1,5 +1,5 @@
 -- One row taken into the dual basis, over the lists that the program holds.
-use Rattle.std.proofs.Common.{◌≡◌, ℕ, ◌+◌, ◌-◌, ◌*◌, ◌%◌, ◌^◌, ◌<◌, ◌≤◌, Bool, true, false, List, get_or, sym, ap, ◌∙◌, inl, inr, ⊎_elim, zero-add, add-one, arith}
+use Rattle.std.proofs.Common.{◌≡◌, ℕ, ◌+◌, ◌-◌, ◌*◌, ◌%◌, ◌^◌, ◌<◌, ◌≤◌, Bool, true, false, List, get_or, sym, ap, ◌∙◌, inl, inr, ⊎_elim, add-one, arith}
 use Rattle.std.proofs.lemmas.Bool.{cases_eq, cases_Bool}
 use Rattle.sets.specs.Matroid.{Set}
 use Rattle.sets.specs.Bits.{SameBut}
@@ -29,13 +29,13 @@ Corrected p l t s old g z xs =
 -- one functional more is corrected
 pub corrected_in :
     (p l : ℕ) (t : ℕ → ℕ) (s : Set) (old g : List ℕ) (z : ℕ) (xs ys zs : List ℕ) (v : ℕ) → l ≤ 64 → v ≡ dot l (functional xs z) t % p →
-    Corrected p l t s old g z xs → ((j : ℕ) → j < l → get_or ys (65 * z + j) 0 ≡ (get_or xs (65 * z + j) 0 + (p - v) * get_or g (0 + j) 0) % p) →
+    Corrected p l t s old g z xs → ((j : ℕ) → j < l → get_or ys (65 * z + j) 0 ≡ (get_or xs (65 * z + j) 0 + (p - v) * get_or g j 0) % p) →
     SameBut (65 * z) l xs ys → zs ≡ ys → Corrected p l t s old g (z + 1) zs
 corrected_in p l t s old g z xs ys zs v small value inv new rest same = rw same (front, back)
   where
     here : (j : ℕ) → j < l → functional ys z j ≡ corrected p l t old g z j
     here j h =
-        let e : get_or ys (65 * z + j) 0 ≡ (get_or xs (65 * z + j) 0 + (p - v) * get_or g j 0) % p = simp zero-add at (new j h) in
+        let e = new j h in
         let f : get_or xs (65 * z + j) 0 ≡ get_or old (65 * z + j) 0 = inv.1 (65 * z + j) (omega arith) in
         let d : v ≡ dot l (functional old z) t % p =
         value ∙ ap (λ x. x % p) (dot_first l (functional xs z) (functional old z) t (λ i k. inv.1 (65 * z + i) (omega arith))) in
@@ -90,14 +90,14 @@ module _
         (q scale : ℕ) (g middle new : List ℕ) → q < l → (get_or sum q 0 ≡ 0 → ⊥) → scale ≡ get_or sum q 0 ^ (p - 2) % p → l ≤ 64 →
         ((j : ℕ) → j < l → get_or g j 0 ≡ fresh p rows (functional state) r s q scale j % p) →
         ((y j : ℕ) → y < r → s y ≡ true → j < l → functional middle y j ≡ corrected p l (rows r) state g y j) →
-        ((j : ℕ) → j < l → get_or new (65 * r + j) 0 ≡ get_or g (0 + j) 0) → SameBut (65 * r) l middle new →
+        ((j : ℕ) → j < l → get_or new (65 * r + j) 0 ≡ get_or g j 0) → SameBut (65 * r) l middle new →
         Dual p l rows (functional new) (r + 1) s
     basis_more q scale g middle new low found is_scale few made old copied same =
         rw add-one
         (dual_more p l rows (functional state) r s prime.0 dual q scale (λ j. get_or g j 0) low unit
         (λ j h. modulo (get_or g j 0) (fresh p rows (functional state) r s q scale j) (made j h)) (functional new)
         (λ z j a b h. modulo (functional new z j) (functional state z j + (p - dot l (functional state z) (rows r) % p) * get_or g j 0) (same (65 * z + j) (inl (omega arith)) ∙ old z j a b h))
-        (λ j h. same_from p (functional new r j) (get_or g j 0) (copied j h ∙ ap (λ x. get_or g x 0) (zero-add j))))
+        (λ j h. same_from p (functional new r j) (get_or g j 0) (copied j h)))
       where
         modulo : (a b : ℕ) → a ≡ b % p → Same p a b
         modulo a b e = same_trans p a (b % p) b (same_from p a (b % p) e) (same_rest p b)

@@ -5,6 +5,7 @@ pub mod Insertion
 pub mod Inverse
 pub mod Laws
 pub mod Modulo
+pub mod Parts
 pub mod Reading
 pub mod Span
 pub mod Steps

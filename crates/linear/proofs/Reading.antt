@@ -1,6 +1,9 @@
 -- Reading a rule of rows: what it answers, and that a refusal is the first of all faults.
-use Rattle.std.proofs.Common.{◌≡◌, ℕ, zero, suc, ◌+◌, ◌-◌, ◌*◌, ◌%◌, ◌<◌, ◌≤◌, Bool, true, false, cond, not, ◌&&◌, eqb, ltb, leb, ◌⊎◌, List, length, get_or, Ok, Err, Result, refl, ap, ◌∙◌, inl, inr, ⊎_elim, arith}
+use Rattle.std.proofs.Common.{◌≡◌, ℕ, zero, suc, ◌+◌, ◌-◌, ◌*◌, ◌%◌, ◌<◌, ◌≤◌, Bool, true, false, cond, not, ◌&&◌, eqb, ltb, leb, ◌⊎◌, List, length, get_or, Ok, Err, Result, refl, sym, ap, ◌∙◌, inl, inr, ⊎_elim, arith}
 use Rattle.std.proofs.lemmas.Bool.{ltb-true, leb-true, leb-false, lt-ltb, lt-leb, le-leb, cases_lt, cases_eq, cases_Bool, and_parts, and_from, not-true, not-false, eqb-true, eq-eqb, both_ways}
+use Rattle.std.proofs.lemmas.List.Folds.{Any-from_list_any, list_any_at}
+use Rattle.std.proofs.lemmas.List.FromFn.{length-range_with_len, get_or-range_with_len}
+use Rattle.std.specs.List.{list_any, range_with_len}
 use Rattle.sets.specs.declared.refusal.Refusal.{Refusal}
 use Rattle.sets.specs.declared.refusal.Refusal.TheVariants.{Length, Row}
 use Rattle.sets.specs.declared.refusal.Source.TheVariants.{Offers}
@@ -37,6 +40,29 @@ divisible_never p h = ⊎_elim (λ y. absurd (found y)) (λ y. y) (cases_Bool (d
         let a = and_parts (ltb 1 r.0) (eqb (p % r.0) 0) r.2 in
         h r.0 (ltb-true 1 r.0 a.0) r.1 (eqb-true (p % r.0) 0 a.1)
 
+-- trying the numbers from 2 on tries every divisor
+pub divisible_listed : (p : ℕ) → list_any (λ d. eqb (p % d) 0) (range_with_len 2 (p - 2)) ≡ divisible p
+divisible_listed p = ⊎_elim (λ y. y ∙ sym (found y)) (λ n. n ∙ sym (divisible_never p (none n))) (cases_Bool (list_any divides tried))
+  where
+    divides : ℕ → Bool
+    divides d = eqb (p % d) 0
+
+    tried : List ℕ
+    tried = range_with_len 2 (p - 2)
+
+    found : list_any divides tried ≡ true → divisible p ≡ true
+    found y =
+        let r = Any-from_list_any divides tried y in
+        let low : r.0 < p - 2 = omega (arith, r.2, length-range_with_len 2 (p - 2)) in
+        let e : r.1 ≡ 2 + r.0 = sym r.3 ∙ get_or-range_with_len 2 (p - 2) r.0 r.1 low in
+        divisible_from p r.1 (omega arith) (omega arith) (eqb-true (p % r.1) 0 r.4)
+
+    none : list_any divides tried ≡ false → (d : ℕ) → 1 < d → d < p → p % d ≡ 0 → ⊥
+    none n d a b e =
+        let low : d - 2 < length tried = omega (arith, length-range_with_len 2 (p - 2)) in
+        let at : get_or tried (d - 2) 0 ≡ d = get_or-range_with_len 2 (p - 2) (d - 2) 0 (omega arith) ∙ omega arith in
+        both_ways (list_any divides tried) n (list_any_at divides tried (d - 2) 0 low (ap divides at ∙ eq-eqb (p % d) 0 e))
+
 -- the test of a prime
 pub prime_passes : (p : ℕ) → Prime p → p ≤ 251 → small_prime p ≡ true
 prime_passes p h l =
@@ -72,15 +98,13 @@ passes_length l h =
 
 module _ (file : List ℕ) (shape : Shape) where
   -- one number, and then the rest
-  pub numbers_step : (count k at : ℕ) → k < count →
-      read_numbers file shape (count - k) (at + k)
-      ≡ cond (leb (length file) (at + k)) (Err (Length Offers (length file)))
-      (cond (leb shape.prime (get_or file (at + k) 0)) (Err (Row (at + k)))
-      (read_numbers file shape (count - (k + 1)) (at + (k + 1))))
-  numbers_step count k at l =
-      let e : count - k ≡ suc (count - (k + 1)) = omega arith in
-      let q : at + (k + 1) ≡ at + k + 1 = omega arith in
-      rw (e, q)
+  pub numbers_step : (end place : ℕ) → place < end →
+      read_numbers file shape (end - place) place
+      ≡ cond (leb (length file) place) (Err (Length Offers (length file)))
+      (cond (leb shape.prime (get_or file place 0)) (Err (Row place))
+      (read_numbers file shape (end - (place + 1)) (place + 1)))
+  numbers_step end place l =
+      let e : end - place ≡ suc (end - (place + 1)) = omega arith in rw e
 
   -- numbers that were read are there, and each is below the prime
   numbers_ok : (left at : ℕ) (c : Shape) → at ≤ length file → read_numbers file shape left at ≡ Ok c →

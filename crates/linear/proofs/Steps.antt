@@ -1,16 +1,26 @@
 -- Steps of loops: one number more.
-use Rattle.std.proofs.Common.{◌≡◌, ℕ, ◌+◌, ◌-◌, ◌*◌, ◌%◌, ◌^◌, ◌<◌, ◌≤◌, Bool, true, false, eqb, List, length, get_or, set, sym, ap, ◌∙◌, ⊎_elim, add-zero, mod-eq_of_lt, pow-suc, zero-add, add-one, arith}
-use Rattle.std.proofs.lemmas.List.{get_or-set_same, get_or-set_other}
-use Rattle.std.proofs.lemmas.Bool.{cases_eq}
+use Rattle.std.proofs.Common.{◌≡◌, ℕ, zero, suc, ◌+◌, ◌-◌, ◌*◌, ◌%◌, ◌^◌, ◌<◌, ◌≤◌, Bool, true, false, eqb, List, length, get_or, set, replicate, map, sum, refl, sym, ap, ◌∙◌, ⊎_elim, add-zero, mod-eq_of_lt, pow-suc, zero-add, add-one, arith}
+use Rattle.std.proofs.lemmas.List.{get_or-set_same, get_or-set_other, get_or-replicate, length-replicate}
+use Rattle.std.proofs.lemmas.Bool.{cases_eq, eq-eqb, ne_eqb}
 use Rattle.std.proofs.lemmas.Nat.{mul-add-lt, mul-le}
+use Rattle.std.specs.List.{fold, range_with_len}
+use Rattle.std.proofs.lemmas.List.FromFn.{sum_by-map-range_with_len_more}
 use Rattle.sets.specs.Matroid.{Set, pick, weight}
 use Rattle.linear.specs.Rows.{number, Well}
 use Rattle.linear.specs.Kept.{dot, rest, fresh, functional}
 use Rattle.linear.proofs.Modulo.{Same, same_refl, same_sum, same_trans, same_from, same_multiple, same_rest, same_is}
 
--- a functional's value over one number more
-pub dot_more : (j : ℕ) (f t : ℕ → ℕ) → dot (j + 1) f t ≡ f j * t j + dot j f t
-dot_more j f t = rw add-one
+-- a functional's value is the sum of its products with the row
+pub dot_listed : (l : ℕ) (f t : ℕ → ℕ) → sum (map (λ j. f j * t j) (range_with_len 0 l)) ≡ dot l f t
+dot_listed zero f t = refl
+dot_listed (suc l) f t =
+    let e = rw add-one at (sum_by-map-range_with_len_more (λ x. x) (λ j. f j * t j) 0 l l (zero-add l)) in
+    omega (arith, e, dot_listed l f t)
+
+-- and is at most as many times the largest product as there are numbers
+pub dot_low : (l most : ℕ) (f t : ℕ → ℕ) → ((j : ℕ) → j < l → f j * t j ≤ most) → dot l f t ≤ l * most
+dot_low zero most f t h = omega arith
+dot_low (suc l) most f t h = omega (arith, h l (omega arith), dot_low l most f t (λ j k. h j (omega arith)))
 
 -- a sum over a set by one element more
 pub weight_in : (m : ℕ) (w : ℕ → ℕ) (s : Set) → s m ≡ true → weight (m + 1) w s ≡ w m + weight m w s
@@ -19,10 +29,6 @@ weight_in m w s h = rw (add-one, h)
 -- or by none, where the element is outside
 pub weight_out : (m : ℕ) (w : ℕ → ℕ) (s : Set) → s m ≡ false → weight (m + 1) w s ≡ weight m w s
 weight_out m w s h = rw (add-one, h) (omega arith)
-
--- the place of number j of row i is in the file
-pub place_low : (at n long i j size : ℕ) → at + n * long ≤ size → i < n → j < long → at + i * long + j < size
-place_low at n long i j size h a b = omega (arith, mul-add-lt i long j n a b)
 
 -- a product of a word and a byte
 pub product_low : (a b : ℕ) → a < 2 ^ 32 → b < 2 ^ 8 → a * b ≤ 2 ^ 40
@@ -35,12 +41,17 @@ power_more p c k v e =
     let a : Same p (c * (c ^ k % p)) (c * c ^ k) = same_multiple p c (c ^ k % p) (c ^ k) (same_rest p (c ^ k)) in
     ap (λ x. x % p) (ap (λ x. x * c) e ∙ omega arith) ∙ same_is p (c * (c ^ k % p)) (c * c ^ k) a ∙ ap (λ x. x % p) (omega arith)
 
--- what holds of the places below j and of what is written at j holds of the places below j + 1
-pub written_more : (f : ℕ → ℕ) (xs : List ℕ) (j v : ℕ) → j < length xs → v ≡ f j →
-    ((k : ℕ) → k < j → get_or xs k 0 ≡ f k) → (k : ℕ) → k < j + 1 → get_or (set xs j v) k 0 ≡ f k
-written_more f xs j v h e old k l =
-    ⊎_elim (λ (q : k ≡ j). ap (λ x. get_or (set xs j v) x 0) q ∙ get_or-set_same xs j v 0 h ∙ e ∙ ap f (sym q))
-    (λ (q : k ≡ j → ⊥). get_or-set_other xs j k v 0 q ∙ old k (omega arith)) (cases_eq k j)
+-- a power more for each number of a list
+pub powers_listed : (p c n k a v : ℕ) → v ≡ c ^ k % p → fold (λ x i. x * c % p) v (range_with_len a n) ≡ c ^ (k + n) % p
+powers_listed p c zero k a v e = e ∙ ap (λ m. c ^ m % p) (sym (add-zero k))
+powers_listed p c (suc n) k a v e = powers_listed p c n (k + 1) (a + 1) (v * c % p) (power_more p c k v e) ∙ ap (λ m. c ^ m % p) (omega arith)
+
+-- a row of zeros with one number written
+pub unit_row : (q v j : ℕ) → j < 64 → get_or (set (replicate 64 0) q v) j 0 ≡ pick (eqb j q) v 0
+unit_row q v j h =
+    let low : j < length {A = ℕ} (replicate 64 0) = rw length-replicate h in
+    ⊎_elim (λ (e : j ≡ q). rw (eq-eqb j q e) (rw (← e) (get_or-set_same (replicate 64 0) j v 0 low)))
+    (λ (ne : j ≡ q → ⊥). rw (ne_eqb j q ne) (get_or-set_other (replicate 64 0) q j v 0 ne ∙ get_or-replicate 64 j 0 0 h)) (cases_eq j q)
 
 -- a sum over a set, kept modulo p, with one element more
 pub grown_in : (p t m : ℕ) (w : ℕ → ℕ) (s : Set) (u : ℕ) → s m ≡ true → u ≡ (t + weight m w s) % p → (u + w m) % p ≡ (t + weight (m + 1) w s) % p
@@ -87,11 +98,10 @@ rest_out p l rows fs m s t xs zs b in_s is old same j h =
 pub fresh_in :
     (p l : ℕ) (rows : ℕ → ℕ → ℕ) (state : List ℕ) (m : ℕ) (s : Set) (q scale : ℕ) (xs ys zs : List ℕ) (b : Bool) (v : ℕ) →
     b ≡ s m → b ≡ true → v ≡ rows m q → ((j : ℕ) → j < l → get_or xs j 0 ≡ fresh p rows (functional state) m s q scale j % p) →
-    ((j : ℕ) → j < l → get_or ys (0 + j) 0 ≡ (get_or xs (0 + j) 0 + (p - scale * v % p) * get_or state (65 * m + j) 0) % p) → zs ≡ ys →
+    ((j : ℕ) → j < l → get_or ys j 0 ≡ (get_or xs j 0 + (p - scale * v % p) * get_or state (65 * m + j) 0) % p) → zs ≡ ys →
     (j : ℕ) → j < l → get_or zs j 0 ≡ fresh p rows (functional state) (m + 1) s q scale j % p
 fresh_in p l rows state m s q scale xs ys zs b v in_s is value old new same j h =
-    let e : get_or ys j 0 ≡ (get_or xs j 0 + (p - scale * v % p) * get_or state (65 * m + j) 0) % p = simp zero-add at (new j h) in
-    ap (λ (x : List ℕ). get_or x j 0) same ∙ e ∙ ap (λ x. (get_or xs j 0 + (p - scale * x % p) * get_or state (65 * m + j) 0) % p) value
+    ap (λ (x : List ℕ). get_or x j 0) same ∙ new j h ∙ ap (λ x. (get_or xs j 0 + (p - scale * x % p) * get_or state (65 * m + j) 0) % p) value
     ∙ grown_in p (pick (eqb j q) scale 0) m (λ z. (p - scale * rows z q % p) * functional state z j) s (get_or xs j 0) (sym in_s ∙ is) (old j h)
 
 -- the same where the offer is outside the set

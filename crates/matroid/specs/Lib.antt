@@ -1,7 +1,9 @@
 pub mod Examples
 pub mod Exchanges
 pub mod Gains
+pub mod Kinds
 pub mod Optimal
 pub mod Problem
 pub mod Reading
 pub mod Rules
+pub mod TwoRules

@@ -1,11 +1,11 @@
 // What a file of offers says: how many offers there are, what each weighs, and two rules.
 ghost use Rattle.std.specs.Prelude.{◌≡◌, ℕ, ◌+◌, ◌*◌, ◌^◌, ◌<◌, ◌≤◌, length, MatchResult};
 ghost use Rattle.sets.specs.Refusals.{First};
-ghost use Rattle.matroid.specs.Problem.{weight_of, rule_end, Means};
+ghost use Rattle.matroid.specs.Problem.{rule_end, weight_of, Means};
 ghost use Rattle.matroid.specs.Reading.{read_weight, read_weights, read_rule, read_second, read_rules, read, Fault};
 
-use crate::rule::Rule;
-use sets::numbers::{read_u16, read_u32};
+use crate::rule::{Kind, Rule};
+use sets::numbers;
 use sets::refusal::{Refusal, Source};
 
 // How many offers there are, and the two rules. The weights begin at byte 2 of the file.
@@ -21,26 +21,7 @@ pub fn weight(file: &[u8], i: usize) -> u32
     requires { 2 + 4 * i + 4 ≤ length file.now }
     ensures { result ≡ weight_of file.now i }
 {
-    read_u32(file, 2 + 4 * i)
-}
-
-impl Rule {
-    // The place behind the rule.
-    pub fn end(self, n: usize) -> usize
-        requires { (n ≤ 600) × (rule_end n self < 2 ^ 64) }
-        ensures { result ≡ rule_end n self }
-    {
-        match self {
-            Rule::Limits { groups, at } => at + groups * (2 + (n + 7) / 8),
-            Rule::Volunteers { volunteers, at } => at + volunteers * ((n + 7) / 8),
-            Rule::Links { towns: _, at } => at + 4 * n,
-            Rule::Rows {
-                prime: _,
-                length,
-                at,
-            } => at + n * length,
-        }
-    }
+    numbers::read::<4>(file, 2 + 4 * i) as u32
 }
 
 // Is a weight there at `at`, of at most a million?
@@ -51,7 +32,7 @@ fn check_weight(file: &[u8], at: usize) -> Result<(), Refusal>
     if file.len() - at < 4 {
         return Err(Refusal::Length(Source::Offers, file.len()));
     }
-    if read_u32(file, at) > 1_000_000 {
+    if numbers::read::<4>(file, at) > 1_000_000 {
         return Err(Refusal::Weight(at));
     }
     Ok(())
@@ -76,29 +57,32 @@ pub fn read_rule(file: &[u8], n: usize, place: usize) -> Result<Rule, Refusal>
     if place == file.len() {
         return Err(Refusal::Length(Source::Offers, file.len()));
     }
-    match file[place] {
-        1 => {
+    let Ok(kind) = Kind::try_from(file[place]) else {
+        return Err(Refusal::Kind(place));
+    };
+    match kind {
+        Kind::Limits => {
             let groups = laminar::read(file, n, place + 1)?;
             Ok(Rule::Limits {
                 groups,
                 at: place + 2,
             })
         }
-        2 => {
+        Kind::Volunteers => {
             let volunteers = transversal::read(file, n, place + 1)?;
             Ok(Rule::Volunteers {
                 volunteers,
                 at: place + 3,
             })
         }
-        3 => {
+        Kind::Links => {
             let towns = graphic::read(file, n, place + 1)?;
             Ok(Rule::Links {
                 towns,
                 at: place + 3,
             })
         }
-        4 => {
+        Kind::Rows => {
             let shape = linear::read(file, n, place + 1)?;
             Ok(Rule::Rows {
                 prime: shape.prime,
@@ -106,7 +90,6 @@ pub fn read_rule(file: &[u8], n: usize, place: usize) -> Result<Rule, Refusal>
                 at: place + 3,
             })
         }
-        _ => Err(Refusal::Kind(place)),
     }
 }
 
@@ -139,7 +122,7 @@ fn read_parts(file: &[u8]) -> Result<Problem, Refusal>
     if file.len() < 2 {
         return Err(Refusal::Length(Source::Offers, file.len()));
     }
-    let n = read_u16(file, 0) as usize;
+    let n = numbers::read::<2>(file, 0) as usize;
     if n == 0 || n > 600 {
         return Err(Refusal::Offers);
     }

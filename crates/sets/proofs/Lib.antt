@@ -1,4 +1,6 @@
+pub mod Cells
 pub mod ClosureTheorem
+pub mod Digits
 pub mod FiniteSets
 pub mod Marks
 pub mod Masks

@@ -155,3 +155,15 @@ bit_not w v j h l =
     let t = bit_mask w j l in
     let e : xor (bit v j) true ≡ not (bit v j) = flipped (bit v j) in
     ap (λ (y : ℕ). bit y j) x ∙ bit_xor_lem v (2 ^ w - 1) j ∙ ap (λ (b : Bool). xor (bit v j) b) t ∙ e
+
+-- bit i set in a number of w bits
+pub bit_set : (w v i j : ℕ) → i < w → bit (bit_or v ((1 * 2 ^ i) % 2 ^ w)) j ≡ (bit v j || eqb j i)
+bit_set w v i j h = bit_or_lem v ((1 * 2 ^ i) % 2 ^ w) j ∙ ap (λ (b : Bool). bit v j || b) (bit_one w i j h)
+
+-- bit i taken out of it
+pub bit_unset : (w v i j : ℕ) → i < w → j < w → bit (bit_and v (2 ^ w - 1 - (1 * 2 ^ i) % 2 ^ w)) j ≡ (bit v j && not (eqb j i))
+bit_unset w v i j h l =
+    let m = (1 * 2 ^ i) % 2 ^ w in
+    bit_and_lem v (2 ^ w - 1 - m) j
+    ∙ ap (λ (b : Bool). bit v j && b) (bit_not w m j (mod-lt _ (pow_pos w)) l)
+    ∙ ap (λ (b : Bool). bit v j && not b) (bit_one w i j h)

@@ -1,5 +1,5 @@
 -- A stretch of a list rewritten number by number, and what that does to the bits.
-use Rattle.std.proofs.Common.{◌≡◌, ℕ, ◌+◌, ◌*◌, ◌/◌, ◌%◌, ◌<◌, ◌≤◌, ◌⊎◌, List, length, get_or, set, sym, refl, ap, ◌∙◌, inl, inr, ⊎_elim, arith}
+use Rattle.std.proofs.Common.{◌≡◌, ℕ, ◌+◌, ◌*◌, ◌/◌, ◌%◌, ◌<◌, ◌≤◌, ◌⊎◌, Bool, List, length, get_or, set, sym, refl, ap, ◌∙◌, inl, inr, ⊎_elim, arith}
 use Rattle.std.proofs.lemmas.List.{get_or-set_same, get_or-set_other}
 use Rattle.std.proofs.lemmas.Bool.{cases_eq, cases_lt}
 use Rattle.sets.specs.Bits.{member, marked, row, word_row, SameBut}
@@ -22,6 +22,10 @@ apart at k p o e = ⊎_elim (λ (l : p < at). omega arith) (λ (l : at + (k + 1)
 wider : (at k p : ℕ) → (p < at) ⊎ (at + (k + 1) ≤ p) → (p < at) ⊎ (at + k ≤ p)
 wider at k p o = ⊎_elim (λ (l : p < at). inl l) (λ (l : at + (k + 1) ≤ p). inr (omega arith)) o
 
+-- one more place is written
+pub same_but_next : (at k : ℕ) (xs ys : List ℕ) (v : ℕ) → SameBut at k xs ys → SameBut at (k + 1) xs (set ys (at + k) v)
+same_but_next at k xs ys v s p o = get_or-set_other ys (at + k) p v 0 (apart at k p o) ∙ s p (wider at k p o)
+
 -- one more number is written
 pub rewritten_more : (f : ℕ → ℕ) (at k : ℕ) (xs ys : List ℕ) (v : ℕ) → at + k < length ys → v ≡ f k → Rewritten f at k xs ys →
     Rewritten f at (k + 1) xs (set ys (at + k) v)
@@ -34,7 +38,7 @@ rewritten_more f at k xs ys v h e r =
           let b : p < k = ⊎_elim (λ (z : p < k). z) (λ (z : k ≤ p). absurd (q (omega arith))) (cases_lt p k) in
           get_or-set_other ys (at + k) (at + p) v 0 (λ z. q (omega arith)) ∙ r.new p b)
           (cases_eq p k);
-      rest = λ p o. get_or-set_other ys (at + k) p v 0 (apart at k p o) ∙ r.rest p (wider at k p o);
+      rest = same_but_next at k xs ys v r.rest;
     }
 
 -- one more write inside the stretch
@@ -90,6 +94,28 @@ unfolding member
 row_is xs at j =
     let p : (8 * at + j) / 8 ≡ at + j / 8 = omega arith in
     let q : (8 * at + j) % 8 ≡ j % 8 = omega arith in
+    cc
+
+-- the first k words of row `to` are each made of itself and of the word of row `from`
+abbrev pub Merged : (ℕ → ℕ → ℕ) → ℕ → ℕ → ℕ → List ℕ → List ℕ → Type 0
+Merged op from to k xs ys = Rewritten (λ p. op (get_or xs (to + p) 0) (get_or xs (from + p) 0)) to k xs ys
+
+-- one more word
+pub merged_more : (op : ℕ → ℕ → ℕ) (from to k len : ℕ) (xs ys : List ℕ) → to + k < length ys → (from + len ≤ to) ⊎ (to + len ≤ from) → k < len →
+    Merged op from to k xs ys → Merged op from to (k + 1) xs (set ys (to + k) (op (get_or ys (to + k) 0) (get_or ys (from + k) 0)))
+merged_more op from to k len xs ys h o l inv =
+    let e = rewritten_kept _ to k xs ys from len inv o l in
+    let f = rewritten_next _ to k xs ys inv in
+    rewritten_more _ to k xs ys _ h (cc) inv
+
+-- at the end a bit of the row is made of the bits of both
+pub merged_marks : (op : ℕ → ℕ → ℕ) (on : Bool → Bool → Bool) → ((a b k : ℕ) → bit (op a b) k ≡ on (bit a k) (bit b k)) → (from to k len : ℕ) (xs ys : List ℕ) →
+    k ≡ len → Merged op from to k xs ys → (j : ℕ) → j < 32 * len → word_row ys to j ≡ on (word_row xs to j) (word_row xs from j)
+merged_marks op on each from to k len xs ys e inv j h =
+    let a = rewritten_marks _ to len xs ys (rewritten_all _ to k len xs ys e inv) j h in
+    let b = each (get_or xs (to + j / 32) 0) (get_or xs (from + j / 32) 0) (j % 32) in
+    let t = word_row_is xs to j in
+    let f = word_row_is xs from j in
     cc
 
 -- words and bytes outside of what was rewritten keep their bits

@@ -1,12 +1,14 @@
 -- The number and the place of each refusal.
-use Rattle.std.specs.Prelude.{◌≡◌, ℕ, ◌+◌, ◌*◌, ◌<◌, ◌≤◌, ◌⊎◌, Some, None, Option}
+use Rattle.std.specs.Prelude.{◌≡◌, ℕ, ◌+◌, ◌*◌, ◌<◌, ◌≤◌, ◌⊎◌, Some, None, Option, List, ◌++◌, codes}
+use Rattle.std.specs.Fmt.{decimal}
 use Rattle.sets.specs.declared.refusal.Refusal.{Refusal}
 use Rattle.sets.specs.declared.refusal.Refusal.TheVariants.{Length, Offers, Weight, Kind, Range, Overlap, Town, Row, Short, Refused, Dual, Split}
 use Rattle.sets.specs.declared.refusal.Source.{Source}
 use Rattle.sets.specs.declared.refusal.Source.TheVariants.{Certificate}
 use Rattle.sets.specs.declared.refusal.Lent.{Lent}
 use Rattle.sets.specs.declared.refusal.Lent.TheVariants.{Sets, Numbers, Work}
-use Rattle.sets.specs.Matroid.{pick}
+use Rattle.sets.specs.declared.refusal.Which.{Which}
+use Rattle.sets.specs.declared.refusal.Which.TheVariants.{Second}
 
 abbrev pub number : Refusal → ℕ
 number (Length _ _) = 1
@@ -27,6 +29,10 @@ slice_place Sets = 0
 slice_place Numbers = 1
 slice_place Work = 2
 
+abbrev pub rule_place : Which → ℕ
+rule_place Which.First = 0
+rule_place Second = 1
+
 abbrev pub place : Refusal → ℕ
 place (Length _ p) = p
 place Offers = 0
@@ -37,7 +43,7 @@ place (Overlap p) = p
 place (Town p) = p
 place (Row p) = p
 place (Short l) = slice_place l
-place (Refused k second) = k * 2 + pick second 1 0
+place (Refused k which) = k * 2 + rule_place which
 place (Dual x) = x
 place (Split k x) = x
 
@@ -55,6 +61,14 @@ source (Short _) = None
 source (Refused _ _) = Some Certificate
 source (Dual _) = Some Certificate
 source (Split _ _) = Some Certificate
+
+-- what is printed of an input and of a refusal
+abbrev pub source_text : Source → List ℕ
+source_text Source.Offers = codes "the offers"
+source_text Certificate = codes "the certificate"
+
+abbrev pub refusal_text : Refusal → List ℕ
+refusal_text e = codes "refused " ++ (decimal (number e) ++ (codes " at " ++ decimal (place e)))
 
 -- one refusal comes before another: at an earlier place, or at the same place by a number that is no greater
 abbrev pub Precedes : Refusal → Refusal → Type 0

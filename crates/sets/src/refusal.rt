@@ -1,24 +1,33 @@
 // Why a file of offers, a certificate or lent memory is refused.
-ghost use Rattle.std.specs.Prelude.{◌≡◌};
-ghost use Rattle.sets.specs.Refusals.{number, place, source, slice_place};
+ghost use Rattle.std.specs.Prelude.{◌≡◌, Some};
+ghost use Rattle.sets.specs.Refusals.{number, place, source, slice_place, source_text, refusal_text};
+
+use std::fmt;
 
 // Which of the two inputs a place in bytes belongs to.
-#[derive(Clone, Copy)]
+#[derive(Clone, Copy, PartialEq, Eq, Debug)]
 pub enum Source {
     Offers,
     Certificate,
 }
 
 // The lent slices that may be too short.
-#[derive(Clone, Copy)]
+#[derive(Clone, Copy, PartialEq, Eq, Debug)]
 pub enum Lent {
     Sets,
     Numbers,
     Work,
 }
 
+// The two rules of a file of offers.
+#[derive(Clone, Copy, PartialEq, Eq, Debug)]
+pub enum Which {
+    First,
+    Second,
+}
+
 // A refusal, with a case for each reason; `specs/Refusals.antt` gives each its number and its place.
-#[derive(Clone, Copy)]
+#[derive(Clone, Copy, PartialEq, Eq, Debug)]
 pub enum Refusal {
     // The bytes end too early or go on: their length, or the first byte too many.
     Length(Source, usize),
@@ -38,8 +47,8 @@ pub enum Refusal {
     Row(usize),
     // A lent slice that is too short.
     Short(Lent),
-    // A set of the certificate, by its size, that a rule does not allow or that has another size: the second rule?
-    Refused(usize, bool),
+    // A set of the certificate, by its size, that a rule does not allow, and which rule; the first, too, if it has another size.
+    Refused(usize, Which),
     // The dual set: the first offer that could be added.
     Dual(usize),
     // The numbers of a size: the size and the first offer in fault.
@@ -60,7 +69,7 @@ impl Lent {
 }
 
 impl Refusal {
-    // The reason's number, 1 to 12.
+    // The reason's number, 1 to 12, for those who read it printed: nothing in the code goes by it.
     pub fn number(self) -> u8
         ensures { result ≡ number self }
     {
@@ -90,7 +99,8 @@ impl Refusal {
             Refusal::Weight(at) | Refusal::Kind(at) | Refusal::Overlap(at) => at as u128,
             Refusal::Town(at) | Refusal::Row(at) => at as u128,
             Refusal::Short(lent) => lent.place() as u128,
-            Refusal::Refused(size, second) => size as u128 * 2 + if second { 1 } else { 0 },
+            Refusal::Refused(size, Which::First) => size as u128 * 2,
+            Refusal::Refused(size, Which::Second) => size as u128 * 2 + 1,
             Refusal::Dual(offer) | Refusal::Split(_, offer) => offer as u128,
         }
     }
@@ -107,5 +117,28 @@ impl Refusal {
             ),
             _ => Some(Source::Offers),
         }
+    }
+}
+
+// The input by its name, as in `refused 5 at 12 in the offers`.
+impl fmt::Display for Source {
+    ghost output = { λ input. Some (source_text input) };
+
+    fn fmt<W: fmt::Write>(&self, f: &mut fmt::Formatter<W>) -> fmt::Result {
+        match self {
+            Source::Offers => write!(f, "the offers"),
+            Source::Certificate => write!(f, "the certificate"),
+        }
+    }
+}
+
+// The reason's number and the place, as in `refused 5 at 12`.
+impl fmt::Display for Refusal {
+    ghost output = { λ refusal. Some (refusal_text refusal) };
+
+    fn fmt<W: fmt::Write>(&self, f: &mut fmt::Formatter<W>) -> fmt::Result {
+        let number = self.number();
+        let place = self.place();
+        write!(f, "refused {number} at {place}")
     }
 }

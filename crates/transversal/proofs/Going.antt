@@ -3,7 +3,7 @@ use Rattle.std.proofs.Common.{◌≡◌, ℕ, suc, ◌+◌, ◌<◌, ◌≤◌, 
 use Rattle.std.proofs.lemmas.Bool.{cases_eq}
 use Rattle.sets.specs.Matroid.{Set, size, with}
 use Rattle.sets.proofs.FiniteSets.{size_with, size_bound}
-use Rattle.transversal.specs.Pairs.{Paired, Queued, Led, Shut}
+use Rattle.transversal.specs.Pairs.{Paired, Led, Shut}
 use Rattle.transversal.proofs.Matchings.{put}
 
 module _ (can : ℕ → ℕ → Bool) (n volunteers : ℕ) (f o : ℕ → ℕ) where
@@ -15,37 +15,6 @@ module _ (can : ℕ → ℕ → Bool) (n volunteers : ℕ) (f o : ℕ → ℕ) w
     pub done : (k y : ℕ) → k < head → y < n → can (queue k) y ≡ true → reached y ≡ true
     pub few : len ≤ volunteers + size n reached
     pub ahead : head ≤ len
-
-  -- the start: the free volunteers are in the queue, and no offer is come to
-  pub going_start : (r : Set) (queue via : ℕ → ℕ) (len : ℕ) → volunteers ≤ 600 → Queued n volunteers o queue len → ((y : ℕ) → y < n → r y ≡ false) →
-      Going r queue via len 0
-  going_start r queue via len small q empty = record {
-    led = record {
-      short = omega (arith, q.few);
-      low = λ k h. (q.low k h).0;
-      by = λ y h e. let a : r y ≡ false = empty y h in absurd (grind arith);
-      known = λ k h l. let a : n ≤ o (queue k) = (q.low k h).1 in absurd (omega arith);
-    };
-    seeds = q.all;
-    pushed = λ y h e. let a : r y ≡ false = empty y h in absurd (grind arith);
-    done = λ k y h. absurd (omega arith);
-    few = omega (arith, q.few);
-    ahead = omega arith;
-  }
-
-  -- one volunteer is done
-  pub going_next : (r : Set) (queue via : ℕ → ℕ) (len head : ℕ) → Going r queue via len head → head < len →
-      ((y : ℕ) → y < n → can (queue head) y ≡ true → r y ≡ true) → Going r queue via len (head + 1)
-  going_next r queue via len head g h all = record {
-    led = g.led;
-    seeds = g.seeds;
-    pushed = g.pushed;
-    few = g.few;
-    ahead = omega arith;
-    done = λ k y l p e. ⊎_elim
-        (λ (q : k ≡ head). all y p (let c : can (queue k) y ≡ true = e in rw q at c))
-        (λ d. g.done k y (omega arith) p e) (cases_eq k head);
-  }
 
   -- an offer is come to by the volunteer whose turn it is
   pub led_in : (r : Set) (queue via : ℕ → ℕ) (len head y : ℕ) → Led can n volunteers o r queue via len len → head < len → y < n → r y ≡ false →

@@ -46,18 +46,6 @@ module _ (file : List ℕ) (n volunteers place : ℕ) (s : Set) (rows : List ℕ
   pub refuses : ((f : ℕ → ℕ) → Tends (can_by rows n (row_words n)) n volunteers s f → ⊥) → false ≡ allows file n volunteers place s
   refuses no_matching = never (allows file n volunteers place s) (λ e. let a = tends_of s s (λ x h p. p) e in no_matching a.0 a.1)
 
-  -- the rows of offers outside of the set are empty before they are closed
-  pub empties : (f : ℕ → ℕ) (started freed : List ℕ) →
-      ((u : ℕ) → u < n → matched volunteers f u ≡ s u) →
-      ((y x : ℕ) → y < n → x < n → in_row started (row_words n) y x ≡ start (can_by rows n (row_words n)) volunteers f y x) →
-      ((k x : ℕ) → (k ≡ n → ⊥) → x < n → in_row freed (row_words n) k x ≡ in_row started (row_words n) k x) →
-      (y x : ℕ) → y < n → x < n → s y ≡ false → in_row freed (row_words n) y x ≡ false
-  empties f started freed all starts others y x h k e =
-      others y x (λ q. omega arith) k ∙ (starts y x h k ∙ none (matched volunteers f y) (can_by rows n (row_words n) (f y) x) (all y h ∙ e))
-    where
-      none : (a b : Bool) → a ≡ false → (a && b) ≡ false
-      none a b q = grind arith
-
   module _ (f o : ℕ → ℕ) (started freed state : List ℕ)
       (pairs : Paired (can_by rows n (row_words n)) n volunteers f o)
       (all : (u : ℕ) → u < n → matched volunteers f u ≡ s u)

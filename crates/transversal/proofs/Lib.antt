@@ -10,4 +10,5 @@ pub mod Pairing
 pub mod Reading
 pub mod RowFacts
 pub mod RowTurns
+pub mod Tables
 pub mod Turns

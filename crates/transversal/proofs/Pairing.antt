@@ -1,10 +1,11 @@
 -- Pairs of offers and volunteers: how they change as an offer takes a volunteer, and how the queue of volunteers grows.
-use Rattle.std.proofs.Common.{◌≡◌, ℕ, ◌+◌, ◌<◌, ◌≤◌, Bool, true, List, length, get_or, set, sym, refl, ap, ◌∙◌, ⊎_elim, arith}
+use Rattle.std.proofs.Common.{◌≡◌, ℕ, ◌+◌, ◌<◌, ◌≤◌, Bool, true, List, Option, Some, None, length, get_or, set, sym, refl, ap, ◌∙◌, ⊎_elim, arith}
 use mathlib.Core.Path.{fun_ext}
 use Rattle.std.proofs.lemmas.List.{get_or-set_same, get_or-set_other, length-set}
 use Rattle.std.proofs.lemmas.Bool.{cases_eq}
 use Rattle.sets.specs.Matroid.{Set, without, with}
-use Rattle.transversal.specs.Pairs.{at, matched, Paired, Queued, Led, Leads}
+use Rattle.transversal.specs.Pairs.{at, named, matched, Paired, Queued, Led, Leads}
+use Rattle.transversal.proofs.Tables.{named_set}
 use Rattle.transversal.proofs.Matchings.{put}
 
 -- a write to a list is a change at one place
@@ -18,6 +19,10 @@ at_set xs i v h = fun_ext (λ j. ⊎_elim
 
     there : (j : ℕ) → (j ≡ i → ⊥) → get_or xs j 0 ≡ put (at xs) i v j
     there j d = grind arith
+
+-- no volunteer is looked at yet
+pub queued_none : (n : ℕ) (o q : ℕ → ℕ) → Queued n 0 o q 0
+queued_none n o q = record { few = omega arith; low = λ k h. absurd (omega arith); all = λ v h. absurd (omega arith) }
 
 -- one more volunteer is looked at: free, or not
 pub queued_in : (n m : ℕ) (o q : ℕ → ℕ) (len : ℕ) → Queued n m o q len → n ≤ o m → Queued n (m + 1) o (put q len m) (len + 1)
@@ -170,44 +175,44 @@ pub queued_write : (n m : ℕ) (o : ℕ → ℕ) (xs ys : List ℕ) (len new : �
     ys ≡ set xs len m → new ≡ len + 1 → Queued n (m + 1) o (at ys) new
 queued_write n m o xs ys len new q h free e d = rw (e, d, at_set xs len m h) (queued_in n m o (at xs) len q free)
 
-module _ (can : ℕ → ℕ → Bool) (n volunteers : ℕ) (s : Set) (x : ℕ) (queue via : ℕ → ℕ) (tends owner : List ℕ) (y : ℕ)
-    (r : Shifting can n volunteers s x queue via (at tends) (at owner) y) (long : n ≤ length tends) (wide : volunteers ≤ length owner) where
+module _ (can : ℕ → ℕ → Bool) (n volunteers : ℕ) (s : Set) (x : ℕ) (queue via : ℕ → ℕ) (tends owner : List (Option ℕ)) (y : ℕ)
+    (r : Shifting can n volunteers s x queue via (named tends) (named owner) y) (long : n ≤ length tends) (wide : volunteers ≤ length owner) where
   -- the volunteer for y is there
   pub shift_low : queue (via y) < volunteers
   shift_low = r.led.low (via y) (r.led.by y r.inside r.come).0
 
   -- the next offer has its volunteer by an earlier place, and what holds on the way holds for it
-  pub shift_write : volunteers ≤ 600 → at owner (queue (via y)) < n →
-      Shifting can n volunteers s x queue via (at (set (set tends y (queue (via y))) (at owner (queue (via y))) 600)) (at (set owner (queue (via y)) y)) (at owner (queue (via y)))
-      × (via (at owner (queue (via y))) < via y)
-  shift_write few h =
+  pub shift_write : (z : ℕ) → volunteers ≤ 600 → named owner (queue (via y)) ≡ z → z < n →
+      Shifting can n volunteers s x queue via (named (set (set tends y (Some (queue (via y)))) z None)) (named (set owner (queue (via y)) (Some y))) z
+      × (via z < via y)
+  shift_write z few e h =
       let a : y < length tends = omega (arith, r.inside) in
-      let b : at owner (queue (via y)) < length (set tends y (queue (via y))) = simp length-set (omega arith) in
+      let b : z < length (set tends y (Some (queue (via y)))) = simp length-set (omega arith) in
       let d : queue (via y) < length owner = omega (arith, shift_low) in
-      rw (at_set (set tends y (queue (via y))) (at owner (queue (via y))) 600 b, at_set tends y (queue (via y)) a, at_set owner (queue (via y)) y d)
-      (shift_on can n volunteers s x queue via (at tends) (at owner) y (queue (via y)) (at owner (queue (via y))) few r refl refl h)
+      rw (named_set (set tends y (Some (queue (via y)))) z None b, named_set tends y (Some (queue (via y))) a, named_set owner (queue (via y)) (Some y) d)
+      (shift_on can n volunteers s x queue via (named tends) (named owner) y (queue (via y)) z few r refl (sym e) h)
 
   -- the last one takes a free volunteer
-  pub shift_done : n ≤ at owner (queue (via y)) →
-      Paired can n volunteers (at (set tends y (queue (via y)))) (at (set owner (queue (via y)) y))
-      × ((u : ℕ) → u < n → matched volunteers (at (set tends y (queue (via y)))) u ≡ with s x u)
+  pub shift_done : n ≤ named owner (queue (via y)) →
+      Paired can n volunteers (named (set tends y (Some (queue (via y))))) (named (set owner (queue (via y)) (Some y)))
+      × ((u : ℕ) → u < n → matched volunteers (named (set tends y (Some (queue (via y))))) u ≡ with s x u)
   shift_done h =
       let a : y < length tends = omega (arith, r.inside) in
       let d : queue (via y) < length owner = omega (arith, shift_low) in
-      let e = shift_end can n volunteers s x queue via (at tends) (at owner) y (queue (via y)) r refl h in (
-        rw (at_set tends y (queue (via y)) a, at_set owner (queue (via y)) y d) e.0,
-        λ u k. ap (λ (f : ℕ → ℕ). matched volunteers f u) (at_set tends y (queue (via y)) a) ∙ e.1 u k,
+      let e = shift_end can n volunteers s x queue via (named tends) (named owner) y (queue (via y)) r refl h in (
+        rw (named_set tends y (Some (queue (via y))) a, named_set owner (queue (via y)) (Some y) d) e.0,
+        λ u k. ap (λ (f : ℕ → ℕ). matched volunteers f u) (named_set tends y (Some (queue (via y))) a) ∙ e.1 u k,
       )
 
 -- offer x takes a free volunteer
-pub take_free : (can : ℕ → ℕ → Bool) (n volunteers : ℕ) (tends owner : List ℕ) (x v : ℕ) → Paired can n volunteers (at tends) (at owner) → x < n → volunteers ≤ at tends x →
-    n ≤ length tends → volunteers ≤ length owner → v < volunteers → n ≤ at owner v → can v x ≡ true →
-    Paired can n volunteers (at (set tends x v)) (at (set owner v x))
-    × ((u : ℕ) → u < n → matched volunteers (at (set tends x v)) u ≡ with (matched volunteers (at tends)) x u)
+pub take_free : (can : ℕ → ℕ → Bool) (n volunteers : ℕ) (tends owner : List (Option ℕ)) (x v : ℕ) → Paired can n volunteers (named tends) (named owner) → x < n →
+    volunteers ≤ named tends x → n ≤ length tends → volunteers ≤ length owner → v < volunteers → n ≤ named owner v → can v x ≡ true →
+    Paired can n volunteers (named (set tends x (Some v))) (named (set owner v (Some x)))
+    × ((u : ℕ) → u < n → matched volunteers (named (set tends x (Some v))) u ≡ with (matched volunteers (named tends)) x u)
 take_free can n volunteers tends owner x v p h out long wide low free fit = (
-  rw (at_set tends x v (omega arith), at_set owner v x (omega arith)) (pair_free can n volunteers (at tends) (at owner) x v p h out low fit free),
-  λ u k. ap (λ (f : ℕ → ℕ). matched volunteers f u) (at_set tends x v (omega arith)) ∙ took u,
+  rw (named_set tends x (Some v) (omega arith), named_set owner v (Some x) (omega arith)) (pair_free can n volunteers (named tends) (named owner) x v p h out low fit free),
+  λ u k. ap (λ (f : ℕ → ℕ). matched volunteers f u) (named_set tends x (Some v) (omega arith)) ∙ took u,
 )
   where
-    took : (u : ℕ) → matched volunteers (put (at tends) x v) u ≡ with (matched volunteers (at tends)) x u
+    took : (u : ℕ) → matched volunteers (put (named tends) x v) u ≡ with (matched volunteers (named tends)) x u
     took u = ⊎_elim (λ e. grind arith) (λ d. grind arith) (cases_eq u x)

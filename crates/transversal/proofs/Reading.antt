@@ -1,15 +1,18 @@
 -- Reading a rule of volunteers: what it answers, and that a refusal is the first of all faults.
-use Rattle.std.proofs.Common.{◌≡◌, ℕ, zero, suc, ◌+◌, ◌-◌, ◌*◌, ◌<◌, ◌≤◌, Bool, true, false, cond, ltb, ◌⊎◌, List, length, Ok, Err, Result, refl, ap, ◌∙◌, inl, inr, ⊎_elim, arith}
+use Rattle.std.proofs.Common.{◌≡◌, ℕ, zero, suc, ◌+◌, ◌-◌, ◌*◌, ◌<◌, ◌≤◌, Bool, true, false, ◌||◌, cond, ltb, ◌⊎◌, List, length, Ok, Err, Result, sym, refl, ap, ◌∙◌, inl, inr, ⊎_elim, arith}
 use Rattle.std.proofs.lemmas.Nat.{mul-le}
-use Rattle.std.proofs.lemmas.Bool.{ltb-true, ltb-false, lt-ltb, le-ltb, cases_order, cases_Bool}
+use Rattle.std.proofs.lemmas.Bool.{ltb-true, ltb-false, le-ltb, cases_order, cases_Bool}
 use Rattle.sets.specs.declared.refusal.Refusal.{Refusal}
 use Rattle.sets.specs.declared.refusal.Refusal.TheVariants.{Length, Range}
 use Rattle.sets.specs.declared.refusal.Source.TheVariants.{Offers}
+use Rattle.std.specs.List.{list_any, range_with_len}
 use Rattle.sets.specs.Bits.{row, row_bytes}
+use Rattle.sets.specs.Matroid.{Set}
 use Rattle.sets.specs.Refusals.{First, Precedes, place}
-use Rattle.transversal.specs.Volunteers.{can_tend, Well}
+use Rattle.transversal.specs.Volunteers.{can_tend, some, Well}
 use Rattle.transversal.specs.Reading.{count, end, Fault, short, many, stray_bit, stray, read_rows, read, ReadsWell, RefusesFirst}
 use Rattle.transversal.proofs.Matchings.{last, some_last, some_from}
+use Rattle.transversal.proofs.RowFacts.{some_same}
 
 -- a test that would refuse was passed on the way to an answer
 passed : (b : Bool) (x : Refusal) (r : Result ℕ Refusal) (c : ℕ) → cond b (Err x) r ≡ Ok c → (b ≡ false) × (r ≡ Ok c)
@@ -21,6 +24,21 @@ stopped : (b : Bool) (x : Refusal) (r : Result ℕ Refusal) (e : Refusal) → co
     ((b ≡ true) × (e ≡ x)) ⊎ ((b ≡ false) × (r ≡ Err e))
 stopped true x r e h = inl (refl, cc)
 stopped false x r e h = inr (refl, h)
+
+-- tests of numbers in a row, from the first on
+some_first : (m : ℕ) (p : Set) → some (suc m) p ≡ (p 0 || some m (λ k. p (suc k)))
+some_first zero p = refl
+some_first (suc m) p =
+    let r : some (suc m) p ≡ (p 0 || some m (λ k. p (suc k))) = some_first m p in
+    grind arith
+
+pub any_is_some : (p : Set) (a m : ℕ) → list_any p (range_with_len a m) ≡ some m (λ k. p (a + k))
+any_is_some p a zero = refl
+any_is_some p a (suc m) =
+    let r : list_any p (range_with_len (a + 1) m) ≡ some m (λ k. p (a + 1 + k)) = any_is_some p (a + 1) m in
+    let q : some m (λ k. p (a + 1 + k)) ≡ some m (λ k. p (a + suc k)) = some_same m _ _ (λ k h. ap p (omega arith)) in
+    let z : p a ≡ p (a + 0) = ap p (omega arith) in
+    (ap (λ b. p a || b) (r ∙ q) ∙ ap (λ b. b || some m (λ k. p (a + suc k))) z) ∙ sym (some_first m (λ k. p (a + k)))
 
 module _ (file : List ℕ) (n : ℕ) where
   -- a bit from n on is a stray bit
@@ -54,21 +72,23 @@ module _ (file : List ℕ) (n : ℕ) where
       (cond (stray file n at) (Err (Range Offers (at + row_bytes n - 1))) (read_rows file n volunteers (volunteers - (v + 1)) (at + row_bytes n)))
   rows_step volunteers v at l = let e : volunteers - v ≡ suc (volunteers - (v + 1)) = omega arith in rw e
 
-  -- the next row is cut off; has a stray bit; is clean; there is none
-  pub rows_cut : (volunteers v at : ℕ) → v < volunteers → length file < at + row_bytes n →
-      read_rows file n volunteers (volunteers - v) at ≡ Err (Length Offers (length file))
-  rows_cut volunteers v at l h = let a : ltb (length file) (at + row_bytes n) ≡ true = lt-ltb (length file) (at + row_bytes n) h in rows_step volunteers v at l ∙ rw a
+  -- the next row, of as many bytes as n bits need, has a stray bit, or is clean
+  pub rows_dirty : (volunteers v at bytes : ℕ) → bytes ≡ row_bytes n → v < volunteers → at + v * bytes + bytes ≤ length file → stray file n (at + v * bytes) ≡ true →
+      read_rows file n volunteers (volunteers - v) (at + v * row_bytes n) ≡ Err (Range Offers (at + v * bytes + bytes - 1))
+  rows_dirty volunteers v at bytes b l h e =
+      let a : ltb (length file) (at + v * row_bytes n + row_bytes n) ≡ false = le-ltb (length file) (at + v * row_bytes n + row_bytes n) (rw b at h) in
+      let d : stray file n (at + v * row_bytes n) ≡ true = rw b at e in
+      rw b (rows_step volunteers v (at + v * row_bytes n) l ∙ rw (a, d))
 
-  pub rows_dirty : (volunteers v at : ℕ) → v < volunteers → at + row_bytes n ≤ length file → stray file n at ≡ true →
-      read_rows file n volunteers (volunteers - v) at ≡ Err (Range Offers (at + row_bytes n - 1))
-  rows_dirty volunteers v at l h e = let a : ltb (length file) (at + row_bytes n) ≡ false = le-ltb (length file) (at + row_bytes n) h in rows_step volunteers v at l ∙ rw (a, e)
-
-  pub rows_on : (volunteers v at : ℕ) → v < volunteers → at + row_bytes n ≤ length file → stray file n at ≡ false →
-      read_rows file n volunteers (volunteers - v) at ≡ read_rows file n volunteers (volunteers - (v + 1)) (at + row_bytes n)
-  rows_on volunteers v at l h e = let a : ltb (length file) (at + row_bytes n) ≡ false = le-ltb (length file) (at + row_bytes n) h in rows_step volunteers v at l ∙ rw (a, e)
-
-  pub rows_end : (volunteers v at : ℕ) → volunteers ≤ v → read_rows file n volunteers (volunteers - v) at ≡ Ok volunteers
-  rows_end volunteers v at l = let e : volunteers - v ≡ 0 = omega arith in rw e
+  pub rows_on : (volunteers v at bytes : ℕ) → bytes ≡ row_bytes n → v < volunteers → at + v * bytes + bytes ≤ length file → stray file n (at + v * bytes) ≡ false →
+      (read_rows file n volunteers (volunteers - v) (at + v * row_bytes n) ≡ read_rows file n volunteers (volunteers - (v + 1)) (at + (v + 1) * row_bytes n))
+      × (at + (v + 1) * row_bytes n ≤ length file)
+  rows_on volunteers v at bytes b l h e =
+      let there : at + v * row_bytes n + row_bytes n ≤ length file = rw b at h in
+      let a : ltb (length file) (at + v * row_bytes n + row_bytes n) ≡ false = le-ltb (length file) (at + v * row_bytes n + row_bytes n) there in
+      let d : stray file n (at + v * row_bytes n) ≡ false = rw b at e in
+      let q : at + (v + 1) * row_bytes n ≡ at + v * row_bytes n + row_bytes n = omega arith in
+      (rows_step volunteers v (at + v * row_bytes n) l ∙ rw (a, d, q), omega arith)
 
   -- rows that were read are there and clean
   rows_ok : (volunteers left at c : ℕ) → at ≤ length file → read_rows file n volunteers left at ≡ Ok c →

@@ -1,14 +1,15 @@
 -- Rows of bits in words: what one word tells of a row, and what a write to one row leaves of the others.
-use Rattle.std.proofs.Common.{◌≡◌, ℕ, zero, suc, ◌+◌, ◌*◌, ◌/◌, ◌%◌, ◌<◌, ◌≤◌, true, ◌||◌, ◌⊎◌, List, get_or, sym, refl, ap, ◌∙◌, inl, inr, ⊎_elim, add-one, arith}
+use Rattle.std.proofs.Common.{◌≡◌, ℕ, zero, suc, ◌+◌, ◌*◌, ◌/◌, ◌%◌, ◌<◌, ◌≤◌, Bool, true, false, not, ◌&&◌, ◌||◌, ◌⊎◌, List, Option, Some, None, MatchOption, min, get_or, replicate, sym, refl, ap, ◌∙◌, inl, inr, ⊎_elim, add-one, arith}
 use lib.Bits.{bit_or}
+use Rattle.std.proofs.lemmas.List.{get_or-replicate}
 use Rattle.std.proofs.lemmas.Nat.{mul-le}
 use Rattle.std.proofs.lemmas.Bool.{cases_order}
-use Rattle.sets.specs.Bits.{marked, word_row, SameBut}
+use Rattle.sets.specs.Bits.{marked, word_row, row_words, SameBut}
 use Rattle.sets.specs.Matroid.{Set}
 use Rattle.sets.proofs.Stretches.{word_row_is}
 use Rattle.sets.proofs.Places.{row_kept}
-use Rattle.transversal.specs.Volunteers.{in_row, some}
-use Rattle.sets.proofs.Masks.{bit, bit_or_lem}
+use Rattle.transversal.specs.Volunteers.{in_row, kept_length, some}
+use Rattle.sets.proofs.Masks.{bit, bit_or_lem, bit_zero}
 
 -- a word that adds nothing to another has no bit that the other lacks
 pub word_covers : (xs ys : List ℕ) (from k y : ℕ) → bit_or (get_or xs (from + k) 0) (get_or ys k 0) ≡ get_or ys k 0 →
@@ -22,6 +23,25 @@ word_covers xs ys from k y e low high p =
     let z : k ≡ 0 + y / 32 = omega arith in
     word_row_is ys 0 y ∙ (ap (λ i. bit (get_or ys i 0) (y % 32)) (sym z) ∙ c)
 
+-- the first place of word k that row `row` of xs has and row 0 of ys has not, or none
+pub first_fresh : (xs ys : List ℕ) (row n k end : ℕ) (o : Option ℕ) → end ≡ min n (32 * k + 32) →
+    MatchOption o ((y : ℕ) → 32 * k ≤ y → y < end → (word_row xs row y && not (word_row ys 0 y)) ≡ false)
+    (λ y. (32 * k ≤ y) × (y < end) × ((word_row xs row y && not (word_row ys 0 y)) ≡ true) ×
+    ((j : ℕ) → 32 * k ≤ j → j < y → (word_row xs row j && not (word_row ys 0 j)) ≡ false)) →
+    MatchOption o ((y : ℕ) → 32 * k ≤ y → y < 32 * k + 32 → y < n → word_row xs row y ≡ true → word_row ys 0 y ≡ true)
+    (λ y. (y < n) × (word_row xs row y ≡ true) × (word_row ys 0 y ≡ false))
+first_fresh xs ys row n k end None e h = λ y a b l p. both (word_row xs row y) (word_row ys 0 y) (h y a (omega arith)) p
+  where
+    both : (a b : Bool) → (a && not b) ≡ false → a ≡ true → b ≡ true
+    both a b q p = grind arith
+first_fresh xs ys row n k end (Some y) e h = (omega (arith, h.1), first (word_row xs row y) (word_row ys 0 y) h.2, second (word_row xs row y) (word_row ys 0 y) h.2)
+  where
+    first : (a b : Bool) → (a && not b) ≡ true → a ≡ true
+    first a b q = grind arith
+
+    second : (a b : Bool) → (a && not b) ≡ true → b ≡ false
+    second a b q = grind arith
+
 -- the row from word 0 on is the set of the words
 pub row_zero : (xs : List ℕ) (x : ℕ) → word_row xs 0 x ≡ marked xs x
 row_zero xs x = let e : 32 * 0 + x ≡ x = omega arith in ap (λ i. marked xs i) e
@@ -29,6 +49,14 @@ row_zero xs x = let e : 32 * 0 + x ≡ x = omega arith in ap (λ i. marked xs i)
 -- row k of m rows lies in their memory
 pub row_in : (k m width len : ℕ) → k < m → m * width ≤ len → k * width + width ≤ len
 row_in k m width len h l = let a = mul-le (k + 1) width m width (omega arith) (omega arith) in omega arith
+
+-- row k lies in the words that are kept
+pub kept_row : (k n width len : ℕ) → width ≡ row_words n → k < n + 601 → kept_length n ≤ len → k * width + width ≤ len
+kept_row k n width len e h l = row_in k (n + 601) width len h (rw e l)
+
+-- words of 0 hold an empty row
+pub row_of_zeros : (m y : ℕ) → y < 32 * m → word_row (replicate m 0) 0 y ≡ false
+row_of_zeros m y h = word_row_is (replicate m 0) 0 y ∙ (ap (λ w. bit w (y % 32)) (get_or-replicate m (0 + y / 32) 0 0 (omega arith)) ∙ bit_zero (y % 32))
 
 -- two rows share no word
 pub rows_off : (k z width : ℕ) → (k ≡ z → ⊥) → (k * width + width ≤ z * width) ⊎ (z * width + width ≤ k * width)

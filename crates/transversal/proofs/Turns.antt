@@ -1,7 +1,6 @@
 -- One turn of the queue, over the lists that the code writes.
 use Rattle.std.proofs.Common.{◌≡◌, ℕ, suc, ◌+◌, ◌-◌, ◌*◌, ◌<◌, ◌≤◌, Bool, true, false, ◌||◌, eqb, List, length, set, arith}
 use mathlib.Core.Path.{fun_ext}
-use Rattle.std.proofs.lemmas.Nat.{mul-le}
 use Rattle.sets.specs.Bits.{marked, word_row}
 use Rattle.sets.specs.Matroid.{size, with}
 use Rattle.sets.proofs.Places.{row_with}
@@ -13,10 +12,6 @@ use Rattle.transversal.proofs.Going.{Going, led_in, going_in, going_push}
 -- a row of words, after an element went in, as a set
 pub row_put : (xs ys : List ℕ) (y : ℕ) → ((j : ℕ) → marked ys j ≡ (marked xs j || eqb j (32 * 0 + y))) → word_row ys 0 ≡ with (word_row xs 0) y
 row_put xs ys y h = fun_ext (row_with xs ys 0 y h)
-
--- the row of volunteer v lies in the table
-pub row_within : (n v width len : ℕ) → v < 600 → (n + 601) * width ≤ len → (n + 1 + v) * width + width ≤ len
-row_within n v width len h l = let a = mul-le (n + 1 + v + 1) width (n + 601) width (omega arith) (omega arith) in omega arith
 
 module _ (can : ℕ → ℕ → Bool) (n volunteers : ℕ) (f o : ℕ → ℕ) (xs ys queue via : List ℕ) (len head y : ℕ)
     (g : Going can n volunteers f o (word_row xs 0) (at queue) (at via) len head)

@@ -1,5 +1,6 @@
 -- What the inner functions keep: who looks after whom, from which offers a volunteer is come to, and rows that are closed.
-use Rattle.std.specs.Prelude.{◌≡◌, ℕ, ◌+◌, ◌<◌, ◌≤◌, Bool, true, false, ◌&&◌, ◌||◌, List, Some, None, Option, nat_le, nat_lt, slice_index}
+use Rattle.std.specs.Prelude.{◌≡◌, ℕ, ◌+◌, ◌<◌, ◌≤◌, Bool, true, false, ◌&&◌, ◌||◌, List, Some, None, Option, nat_le, nat_lt, slice_index, slice_index_or, unwrap_or, All, IfSome}
+use Rattle.sets.specs.Bits.{row_words}
 use Rattle.sets.specs.Matroid.{Set}
 use Rattle.transversal.specs.Volunteers.{in_row, some}
 
@@ -7,9 +8,17 @@ use Rattle.transversal.specs.Volunteers.{in_row, some}
 abbrev pub at : List ℕ → ℕ → ℕ
 at xs i = slice_index xs i
 
+-- whom a table names at a place: 600 where it names nobody
+abbrev pub named : List (Option ℕ) → ℕ → ℕ
+named xs i = unwrap_or (slice_index_or xs i None) 600
+
 -- volunteer v can look after offer x, by the volunteers' rows behind the rows of the offers
 abbrev pub can_by : List ℕ → ℕ → ℕ → ℕ → ℕ → Bool
 can_by rows n width v x = in_row rows width (n + 1 + v) x
+
+-- the same for rows of as many words as n offers need
+abbrev pub by_rows : List ℕ → ℕ → ℕ → ℕ → Bool
+by_rows rows n = can_by rows n (row_words n)
 
 -- the offers that have a volunteer
 abbrev pub matched : ℕ → (ℕ → ℕ) → Set
@@ -20,6 +29,12 @@ pub record Paired (can : ℕ → ℕ → Bool) (n volunteers : ℕ) (f o : ℕ �
   pub able : (x : ℕ) → x < n → f x < volunteers → can (f x) x ≡ true
   pub owned : (x : ℕ) → x < n → f x < volunteers → o (f x) ≡ x
   pub back : (v : ℕ) → v < volunteers → o v < n → f (o v) ≡ v
+
+-- two tables hold such pairs by the rows, and name only volunteers, and offers, that are there
+pub record Holds (rows : List ℕ) (n volunteers : ℕ) (tends owner : List (Option ℕ)) : Type 0 where
+  pub pairs : Paired (by_rows rows n) n volunteers (named tends) (named owner)
+  pub helpers : All (λ o. IfSome o (λ v. v < volunteers)) tends
+  pub helped : All (λ o. IfSome o (λ x. x < n)) owner
 
 -- the first len places of the queue hold the free volunteers below m
 pub record Queued (n m : ℕ) (o queue : ℕ → ℕ) (len : ℕ) : Type 0 where

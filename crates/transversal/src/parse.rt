@@ -1,39 +1,36 @@
 // Reads a rule of volunteers from a file.
-ghost use Rattle.std.specs.Prelude.{◌≡◌, ℕ, ◌+◌, ◌*◌, ◌/◌, ◌<◌, ◌≤◌, length};
+ghost use Rattle.std.specs.Prelude.{◌≡◌, ◌+◌, ◌≤◌, length};
+ghost use Rattle.sets.specs.Bits.{row_bytes};
 ghost use Rattle.transversal.specs.Reading.{read, read_rows, stray};
 
-use sets::bytes::contains;
-use sets::numbers::read_u16;
+use sets::bits::contains;
+use sets::numbers;
 use sets::refusal::{Refusal, Source};
 
-// Has the row at `place` a bit behind the last offer?
-fn has_stray_bit(file: &[u8], n: usize, place: usize) -> bool
-    requires { (n ≤ 600) × (place + (n + 7) / 8 ≤ length file.now) }
-    ensures { result ≡ stray file.now n place }
+// Has the row at byte `row` a bit behind the last offer?
+fn has_stray_bit(file: &[u8], n: usize, row: usize) -> bool
+    requires few { n ≤ 600 }
+    requires within { row + row_bytes n ≤ length file.now }
+    ensures { result ≡ stray file.now n row }
 {
-    for i in n..8 * ((n + 7) / 8) {
-        if contains(file, place, i) {
-            return true;
-        }
-    }
-    false
+    (n..8 * n.div_ceil(8)).any(|i| contains(file, row, i))
 }
 
-// Reads the rows of all volunteers, from `place` on.
-fn read_rows(file: &[u8], n: usize, volunteers: usize, place: usize) -> Result<usize, Refusal>
-    requires { (1 ≤ n) × ((n ≤ 600) × (place ≤ length file.now)) }
-    ensures { result ≡ read_rows file.now n volunteers volunteers place }
+// Are the rows of all volunteers there, from byte `at` on, and none with a bit behind the last offer?
+fn read_rows(file: &[u8], n: usize, volunteers: usize, at: usize) -> Result<usize, Refusal>
+    requires offers { (1 ≤ n) × (n ≤ 600) }
+    requires place { at ≤ length file.now }
+    ensures { result ≡ read_rows file.now n volunteers volunteers at }
 {
-    let bytes = (n + 7) / 8;
-    let mut row = place;
-    for _v in 0..volunteers {
+    let bytes = n.div_ceil(8);
+    for v in 0..volunteers {
+        let row = at + v * bytes;
         if file.len() - row < bytes {
             return Err(Refusal::Length(Source::Offers, file.len()));
         }
         if has_stray_bit(file, n, row) {
             return Err(Refusal::Range(Source::Offers, row + bytes - 1));
         }
-        row += bytes;
     }
     Ok(volunteers)
 }
@@ -46,7 +43,7 @@ pub fn read(file: &[u8], n: usize, p: usize) -> Result<usize, Refusal>
     if file.len() - p < 2 {
         return Err(Refusal::Length(Source::Offers, file.len()));
     }
-    let volunteers = read_u16(file, p) as usize;
+    let volunteers = numbers::read::<2>(file, p) as usize;
     if volunteers > 600 {
         return Err(Refusal::Range(Source::Offers, p));
     }

@@ -4,7 +4,6 @@ use crate::cases::{Given, Table};
 use crate::tally::Tally;
 use crate::{build, cases};
 use certificate::check;
-use sets::bytes::contains;
 use std::alloc::AllocError;
 use std::io;
 use weighted::choose;
@@ -34,56 +33,43 @@ impl Dice {
     }
 }
 
+// Is offer i in a set of six?
+fn has(set: u32, i: usize) -> bool {
+    i < 6 && (set >> (i % 6)) & 1 == 1
+}
+
 // What a set of six offers weighs.
 fn weight(weights: &[u32; 6], set: u32) -> u64 {
-    let mut sum = 0u64;
-    for i in 0..6 {
-        if (set >> i) & 1 == 1 {
-            sum = sum.saturating_add(u64::from(weights[i]));
-        }
-    }
-    sum
+    weights
+        .iter()
+        .enumerate()
+        .filter(|(i, _)| has(set, *i))
+        .fold(0u64, |sum, (_, w)| sum.saturating_add(u64::from(*w)))
 }
 
 // The weight of a heaviest set of so many offers that both rules allow, among all sets.
 fn heaviest(first: &Table, second: &Table, weights: &[u32; 6], size: u32) -> Option<u64> {
-    let mut best = None;
-    for set in 0..64u32 {
-        if set.count_ones() == size && first.at(set) && second.at(set) {
-            let w = weight(weights, set);
-            best = match best {
-                Some(b) if b >= w => Some(b),
-                _ => Some(w),
-            };
-        }
-    }
-    best
+    (0..64u32)
+        .filter(|set| set.count_ones() == size && first.at(*set) && second.at(*set))
+        .map(|set| weight(weights, set))
+        .max()
 }
 
 // The set of six offers in a byte of the lent sets.
 fn set_at(sets: &[u8], at: usize) -> u32 {
-    let mut set = 0u32;
-    for i in 0..6 {
-        if at < sets.len() && contains(sets, at, i) {
-            set |= 1 << i;
-        }
-    }
-    set
+    u32::from(sets.get(at).copied().unwrap_or(0) & 63)
 }
 
 // The certificate's bytes, for six offers.
 fn sheet(bytes: &mut Vec<u8>, size: usize, sets: &[u8], numbers: &[u64]) -> Result<(), AllocError> {
     bytes.clear();
-    for j in 0..size.min(6) + 2 {
-        if j < sets.len() {
-            bytes.extend_from_slice(&[sets[j]])?;
-        }
-        if j >= 2 {
-            for p in 12 * (j - 2)..12 * (j - 1) {
-                if p < numbers.len() {
-                    bytes.extend_from_slice(&numbers[p].to_le_bytes())?;
-                }
-            }
+    for row in sets.iter().take(2) {
+        bytes.extend_from_slice(&[*row])?;
+    }
+    for (row, parts) in sets.iter().skip(2).zip(numbers.chunks(12)).take(size) {
+        bytes.extend_from_slice(&[*row])?;
+        for number in parts {
+            bytes.extend_from_slice(&number.to_le_bytes())?;
         }
     }
     Ok(())
@@ -100,12 +86,12 @@ fn compare(
 ) {
     for k in 1..7u32 {
         let found = set_at(sets, k as usize + 1);
-        match heaviest(first, second, weights, k) {
-            Some(best) => t.count(
-                k as usize <= size && weight(weights, found) == best && found.count_ones() == k,
-            ),
-            None => t.count(size < k as usize),
-        }
+        t.count(match heaviest(first, second, weights, k) {
+            Some(best) => {
+                k as usize <= size && weight(weights, found) == best && found.count_ones() == k
+            }
+            None => size < k as usize,
+        });
     }
 }
 
@@ -129,14 +115,7 @@ fn one(
     first: Given,
     second: Given,
 ) -> io::Result<()> {
-    let weights = [
-        dice.weight(),
-        dice.weight(),
-        dice.weight(),
-        dice.weight(),
-        dice.weight(),
-        dice.weight(),
-    ];
+    let weights = [(); 6].map(|_| dice.weight());
     let mut file = build::offers(rt.alloc(), &weights)?;
     first.write(&mut file)?;
     second.write(&mut file)?;
@@ -173,10 +152,10 @@ fn one(
 pub fn all(rt: &HostRuntime) -> io::Result<()> {
     let mut t = Tally::new();
     let mut dice = Dice(1);
-    for i in 0..48 {
+    for first in &cases::SIX {
         for _ in 0..16 {
-            let j = (dice.roll(48) % 48) as usize;
-            one(rt, &mut t, &mut dice, cases::SIX[i], cases::SIX[j])?;
+            let second = cases::SIX[(dice.roll(48) % 48) as usize];
+            one(rt, &mut t, &mut dice, *first, second)?;
         }
     }
     t.show(rt, "choices")

@@ -1,4 +1,4 @@
-// The three functions of every kind beside what the rule allows, for all sets of at most six offers.
+// The questions of every kind beside what the rule allows, for all sets of at most six offers.
 ghost use Rattle.std.specs.Prelude.{◌≡◌, ℕ, ◌<◌, ◌≤◌, length};
 ghost use Rattle.matroid.specs.Rules.{Well, kept_length};
 ghost use Rattle.sets.specs.Bits.{marked};
@@ -7,7 +7,7 @@ use crate::cases::{Given, Table};
 use crate::tally::Tally;
 use crate::{build, cases};
 use matroid::problem::read;
-use matroid::{Rule, can_add, can_exchange, independent};
+use matroid::{Offers, Oracle};
 use std::io;
 
 // Is x in the set?
@@ -15,35 +15,34 @@ fn holds(set: &[u32], x: usize) -> bool
     requires { (x < 32) × (1 ≤ length set.now) }
     ensures { result ≡ marked set.now x }
 {
-    sets::words::contains(set, 0, x)
+    sets::bits::contains(set, 0, x)
 }
 
 // All exchanges of an allowed set, for an x outside of it.
 fn exchanges(
     t: &mut Tally,
-    file: &[u8],
-    n: usize,
-    rule: Rule,
+    oracle: &Oracle,
     set: &[u32],
     state: &mut [u32],
     mask: u32,
     table: &Table,
 )
-    requires small { (1 ≤ n) × ((n ≤ 6) × ((length set.now ≡ 1) × (kept_length n ≤ length state.old))) }
-    requires well { Well file.now n rule }
+    requires small { (1 ≤ oracle.now.n) × (oracle.now.n ≤ 6) }
+    requires room { (length set.now ≡ 1) × (kept_length oracle.now.n ≤ length state.old) }
+    requires well { Well oracle.now.file.now oracle.now.n oracle.now.rule }
 {
-    let allowed = independent(file, n, rule, set, state);
+    let allowed = oracle.independent(set, state);
     t.count(allowed == table.at(mask));
     if !allowed {
         return;
     }
-    for x in 0..n {
+    for x in 0..oracle.n {
         if !holds(set, x) {
-            t.count(can_add(file, n, rule, set, state, x) == table.at(mask | (1 << x)));
-            for y in 0..n {
+            t.count(oracle.can_add(set, state, x) == table.at(mask | (1 << x)));
+            for y in 0..oracle.n {
                 if holds(set, y) {
                     let after = (mask & !(1 << y)) | (1 << x);
-                    t.count(can_exchange(file, n, rule, set, state, x, y) == table.at(after));
+                    t.count(oracle.can_exchange(set, state, x, y) == table.at(after));
                 }
             }
         }
@@ -51,15 +50,14 @@ fn exchanges(
 }
 
 // All sets of n offers by one rule.
-fn all_sets(t: &mut Tally, file: &[u8], n: usize, rule: Rule, state: &mut [u32], table: &Table)
-    requires small { (1 ≤ n) × ((n ≤ 6) × (kept_length n ≤ length state.old)) }
-    requires well { Well file.now n rule }
+fn all_sets(t: &mut Tally, oracle: &Oracle, state: &mut [u32], table: &Table)
+    requires small { (1 ≤ oracle.now.n) × (oracle.now.n ≤ 6) }
+    requires room { kept_length oracle.now.n ≤ length state.old }
+    requires well { Well oracle.now.file.now oracle.now.n oracle.now.rule }
 {
-    for mask in 0..64u32 {
-        if mask < (1 << n) {
-            let set = [mask];
-            exchanges(t, file, n, rule, &set, state, mask, table);
-        }
+    for mask in 0..(1u32 << oracle.n) {
+        let set = [mask];
+        exchanges(t, oracle, &set, state, mask, table);
     }
 }
 
@@ -67,14 +65,14 @@ fn all_sets(t: &mut Tally, file: &[u8], n: usize, rule: Rule, state: &mut [u32],
 fn both_rules(t: &mut Tally, file: &[u8], state: &mut [u32], first: &Table, second: &Table)
     requires { kept_length 6 ≤ length state.old }
 {
-    match read(file) {
-        Ok(problem) => {
-            if problem.n <= 6 {
-                all_sets(t, file, problem.n, problem.first, state, first);
-                all_sets(t, file, problem.n, problem.second, state, second);
-            }
-        }
-        Err(_) => t.count(false),
+    let Ok(problem) = read(file) else {
+        t.count(false);
+        return;
+    };
+    if problem.n <= 6 {
+        let offers = Offers { file, problem };
+        all_sets(t, &offers.first(), state, first);
+        all_sets(t, &offers.second(), state, second);
     }
 }
 
@@ -97,11 +95,11 @@ fn pair(rt: &HostRuntime, t: &mut Tally, n: u16, first: Given, second: Given) ->
 // Each rule once on either side.
 pub fn all(rt: &HostRuntime) -> io::Result<()> {
     let mut t = Tally::new();
-    for i in 0..48 {
-        pair(rt, &mut t, 6, cases::SIX[i], cases::SIX[(i + 12) % 48])?;
+    for (i, rule) in cases::SIX.iter().enumerate() {
+        pair(rt, &mut t, 6, *rule, cases::SIX[(i % 48 + 12) % 48])?;
     }
-    for i in 0..4 {
-        pair(rt, &mut t, 2, cases::TWO[i], cases::TWO[(i + 1) % 4])?;
+    for (i, rule) in cases::TWO.iter().enumerate() {
+        pair(rt, &mut t, 2, *rule, cases::TWO[(i % 4 + 1) % 4])?;
     }
     t.show(rt, "kinds")
 }

@@ -2,7 +2,7 @@
 use crate::build;
 use crate::tally::Tally;
 use certificate::check;
-use sets::refusal::Refusal;
+use sets::refusal::{Lent, Refusal, Source, Which};
 use std::io;
 
 // A certificate for three offers of weights 5, 4 and 3: the largest set 1 2, the dual set 0 1; size 1: offer 0 with the
@@ -15,38 +15,29 @@ static SHEET: [u8; 100] = [
     103, 0, 0, 0, 0, 0, 0, 0,
 ];
 
-// A byte's place and new value, then the refusal's number, its place and its size, or zeros where it is still accepted.
-static CHANGES: [(usize, u8, u8, u128, usize); 20] = [
-    (0, 3, 10, 4, 0),
-    (0, 5, 10, 5, 0),
-    (1, 8, 5, 1, 0),
-    (1, 7, 0, 0, 0),
-    (1, 2, 0, 0, 0),
-    (1, 0, 0, 0, 0),
-    (1, 1, 11, 0, 0),
-    (2, 2, 12, 0, 1),
-    (2, 3, 10, 2, 0),
-    (2, 8, 5, 2, 0),
-    (51, 3, 10, 4, 0),
-    (51, 5, 10, 5, 0),
-    (51, 7, 10, 4, 0),
-    (3, 250, 12, 0, 1),
-    (10, 127, 12, 0, 1),
-    (11, 13, 12, 0, 1),
-    (19, 248, 12, 1, 1),
-    (60, 104, 12, 0, 2),
-    (76, 101, 12, 1, 2),
-    (99, 128, 12, 0, 2),
+// A byte's place and new value, then the size of the largest choice where the certificate is still accepted, or its refusal.
+static CHANGES: [(usize, u8, Result<usize, Refusal>); 20] = [
+    (0, 3, Err(Refusal::Refused(2, Which::First))),
+    (0, 5, Err(Refusal::Refused(2, Which::Second))),
+    (1, 8, Err(Refusal::Range(Source::Certificate, 1))),
+    (1, 7, Ok(2)),
+    (1, 2, Ok(2)),
+    (1, 0, Ok(2)),
+    (1, 1, Err(Refusal::Dual(0))),
+    (2, 2, Err(Refusal::Split(1, 0))),
+    (2, 3, Err(Refusal::Refused(1, Which::First))),
+    (2, 8, Err(Refusal::Range(Source::Certificate, 2))),
+    (51, 3, Err(Refusal::Refused(2, Which::First))),
+    (51, 5, Err(Refusal::Refused(2, Which::Second))),
+    (51, 7, Err(Refusal::Refused(2, Which::First))),
+    (3, 250, Err(Refusal::Split(1, 0))),
+    (10, 127, Err(Refusal::Split(1, 0))),
+    (11, 13, Err(Refusal::Split(1, 0))),
+    (19, 248, Err(Refusal::Split(1, 1))),
+    (60, 104, Err(Refusal::Split(2, 0))),
+    (76, 101, Err(Refusal::Split(2, 1))),
+    (99, 128, Err(Refusal::Split(2, 0))),
 ];
-
-// Is the outcome the one with this number, place and size?
-fn comes_to(outcome: Result<usize, Refusal>, number: u8, place: u128, size: usize) -> bool {
-    match outcome {
-        Ok(_) => number == 0,
-        Err(Refusal::Split(k, x)) => number == 12 && k == size && x as u128 == place,
-        Err(e) => e.number() == number && e.place() == place && size == 0,
-    }
-}
 
 pub fn all(rt: &HostRuntime) -> io::Result<()> {
     let mut t = Tally::new();
@@ -54,20 +45,16 @@ pub fn all(rt: &HostRuntime) -> io::Result<()> {
     build::limits(&mut file, &[(1, 0b011)])?;
     build::volunteers(&mut file, &[0b101, 0b010])?;
     let mut work = vec![in rt.alloc(); 0u32; 20_000]?;
-    t.count(comes_to(check(&file, &SHEET, work.as_mut_slice()), 0, 0, 0));
-    for (at, byte, number, place, size) in &CHANGES {
+    t.count(check(&file, &SHEET, work.as_mut_slice()) == Ok(2));
+    for (at, byte, want) in &CHANGES {
         let mut sheet = SHEET;
-        if *at < 100 {
+        if *at < sheet.len() {
             sheet[*at] = *byte;
         }
-        t.count(comes_to(
-            check(&file, &sheet, work.as_mut_slice()),
-            *number,
-            *place,
-            *size,
-        ));
+        t.count(check(&file, &sheet, work.as_mut_slice()) == *want);
     }
-    t.count(comes_to(check(&file, &SHEET[0..99], work.as_mut_slice()), 1, 99, 0));
-    t.count(comes_to(check(&file, &SHEET, &mut []), 9, 2, 0));
+    let cut = check(&file, &SHEET[0..99], work.as_mut_slice());
+    t.count(cut == Err(Refusal::Length(Source::Certificate, 99)));
+    t.count(check(&file, &SHEET, &mut []) == Err(Refusal::Short(Lent::Work)));
     t.show(rt, "certificates")
 }

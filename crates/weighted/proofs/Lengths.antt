@@ -32,6 +32,12 @@ cleared n words h x l =
     let z : x ≡ 32 * 0 + x = omega arith in
     ap (marked words) z ∙ h x b
 
+-- numbers that were cleared are 0
+pub zeroed : (n : ℕ) (words : List ℕ) → ((p : ℕ) → p < n → get_or words (0 + p) 0 ≡ 0) → (x : ℕ) → x < n → get_or words x 0 ≡ 0
+zeroed n words h x l =
+    let z : x ≡ 0 + x = omega arith in
+    ap (λ (p : ℕ). get_or words p 0) z ∙ h x l
+
 -- a rule that stands in a file begins in it
 pub begins_within : (file : List ℕ) (n p : ℕ) (rule : Rule) → Stands file n p rule → p ≤ length file
 begins_within file n p (Limits groups at) h = let b : p + 2 ≤ length file = h.0 in omega arith

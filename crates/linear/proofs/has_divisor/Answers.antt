@@ -1,10 +1,12 @@
--- The divisor found, or every number tried.
-use Rattle.std.proofs.Common.{sym, arith}
-use Rattle.linear.proofs.Reading.{divisible_from, divisible_never}
+-- Every number from 2 on is tried.
+use Rattle.std.proofs.Common.{rules, tests, ◌%◌, ◌-◌, eqb, refl, ◌∙◌}
+use Rattle.std.proofs.lemmas.Iterator.{YieldsList-from_range}
+use Rattle.std.proofs.lemmas.Iterator.Search.{any_from_yields_List}
+use Rattle.linear.proofs.Reading.{divisible_listed}
 use Rattle.linear.proofs.has_divisor.Goals as goal
 
-pub returns-then-p-d-eq0 : goal.returns-then-p-d-eq0
-returns-then-p-d-eq0 c = sym (divisible_from c.args.p c.loop-d.d (omega arith) (omega arith) c.if-p-d-eq0.true)
-
 pub returns : goal.returns
-returns c = sym (divisible_never c.args.p (λ d a b e. c.loop-d.invariant d a (omega arith) e))
+returns c =
+    any_from_yields_List (λ d. eqb (c.args.p % d) 0) _ _ c.any.result c.any.ensures.ran
+    (YieldsList-from_range 2 c.args.p (c.args.p - 2) refl refl) (λ x b q k. search (rules, tests))
+    ∙ divisible_listed c.args.p

@@ -31,8 +31,13 @@ write_and_check-requires c =
     let r = room problem.n size (length c.args.sets.now) (length c.args.numbers.now) (length c.args.sheet.now) o.at_most_all a.1 a.2 l in
     let w = enough_work problem.n (length c.args.work.now) a.3 in
     record {
-      choice = (c.in_ok-problem.ensures.meaning, (o.chosen, o.at_most_all));
-      lengths = (omega (arith, r.0), (omega (arith, r.1), (r.2, omega (arith, w))));
+      meaning = c.in_ok-problem.ensures.meaning;
+      choice = o.chosen;
+      most = o.at_most_all;
+      bits = omega (arith, r.0);
+      parts = omega (arith, r.1);
+      room = r.2;
+      words = omega (arith, w);
     }
 
 pub returns : goal.returns

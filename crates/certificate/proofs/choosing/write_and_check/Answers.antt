@@ -1,26 +1,15 @@
-use Rattle.std.proofs.Common.{◌≡◌, ◌+◌, ◌-◌, ◌≤◌, length, arith}
-use Rattle.certificate.specs.Layout.{row_at}
+use Rattle.std.proofs.Common.{length, arith}
 use Rattle.certificate.proofs.Accepted.{front_valid, front_accepted}
 use Rattle.certificate.proofs.choosing.write_and_check.Goals as goal
 
-pub returns : goal.returns
-returns c =
-    let file = c.args.file.now in
-    let problem = c.args.problem in
-    let size = c.args.size in
-    let sets = c.args.sets.now in
-    let numbers = c.args.numbers.now in
-    let sheet = c.write_sheet.new.sheet in
-    let m = c.requires.choice.0 in
-    let h = c.requires.choice.1.0 in
-    let w = c.write_sheet.ensures in
-    let l : row_at problem.n (size + 2) ≤ length sheet = omega (arith, c.requires.lengths.1.1.0) in
-    let e : c.row_at-end.result - 0 ≡ row_at problem.n (size + 2) = omega (arith, c.row_at-end.ensures.exact) in
-    record {
-      answer =
-          front_accepted file problem size (c.row_at-end.result - 0) (length c.args.work.now) sets numbers sheet m h w.written l e
-          c.requires.lengths.1.1.1 c.check.result c.check.ensures;
-      written = w.written;
-      behind = w.behind;
-      valid = (front_valid file problem size sets numbers sheet m h w.written l).0;
-    }
+pub returns-clause-answer : goal.returns-clause-answer
+returns-clause-answer c =
+    let o = c.args.offers.now in
+    front_accepted o.file.now o.problem c.args.size c.row_at-end.result (length c.args.work.now) c.args.sets.now c.args.numbers.now c.write_sheet.new.sheet
+    c.requires.meaning c.requires.choice c.write_sheet.ensures.written (omega (arith, c.requires.room)) c.row_at-end.ensures.exact c.requires.words c.check.result c.check.ensures
+
+pub returns-clause-valid : goal.returns-clause-valid
+returns-clause-valid c =
+    let o = c.args.offers.now in
+    (front_valid o.file.now o.problem c.args.size c.args.sets.now c.args.numbers.now c.write_sheet.new.sheet c.requires.meaning c.requires.choice
+    c.write_sheet.ensures.written (omega (arith, c.requires.room))).0

@@ -1,10 +1,7 @@
 use Rattle.std.proofs.Common.{length, sym, inl, inr}
 use Rattle.std.proofs.lemmas.Result.{err_from_is_err_and, MatchResult-weaker}
-use Rattle.certificate.proofs.Accepting.{usable, proven, refused_file, not_certified}
+use Rattle.certificate.proofs.Accepting.{proven, refused_file, not_certified}
 use Rattle.certificate.proofs.offers.check.Goals as goal
-
-pub check_sheet-requires : goal.check_sheet-requires
-check_sheet-requires c = usable c.args.file.now c.in_ok-problem.problem c.in_ok-problem.ensures.meaning
 
 pub returns-in_err-problem : goal.returns-in_err-problem
 returns-in_err-problem c =
@@ -22,6 +19,6 @@ returns c =
     let words = length c.args.work.now in
     let problem = c.in_ok-problem.problem in
     let m = c.in_ok-problem.ensures.meaning in
-    MatchResult-weaker c.check_sheet.result c.check_sheet.ensures.answer
+    MatchResult-weaker c.check.result c.check.ensures.answer
     (λ k h. (problem, (m, h.1, h.2), proven file sheet problem k m h.0 h.1))
     (λ e h. (inr (problem, m, h), λ other d. not_certified file sheet words problem e m h other d))

@@ -1,12 +1,5 @@
-use Rattle.std.proofs.Common.{length, arith}
-use Rattle.certificate.proofs.RowsWritten.{row_fits, written_more, behind_more}
+use Rattle.certificate.proofs.RowsWritten.{written_more, behind_more}
 use Rattle.certificate.proofs.writing.write_sheet.Goals as goal
-
-pub write_block-requires : goal.write_block-requires
-write_block-requires c =
-    let r = row_fits c.args.n c.loop-i.i c.args.size (length c.args.sets.now) (length c.args.numbers.now) (length c.args.sheet.now)
-    (omega arith) c.requires.lengths.0 c.requires.lengths.1.0 c.requires.lengths.1.1 in
-    record { small = (c.requires.small.0, omega arith); lengths = (r.0, (r.1, omega (arith, r.2))) }
 
 pub loop-i-preserved : goal.loop-i-preserved
 loop-i-preserved c =

@@ -13,11 +13,12 @@ loop-i-preserved-then-rest-eq0 c = (
 )
 
 pub returns-then-rest-eq1 : goal.returns-then-rest-eq1
-returns-then-rest-eq1 c = record {
-  within = omega arith;
-  skipped = c.loop-i.invariant.1;
-  found = λ _. (c.loop-i.invariant.0, rest_tells c.args.row.now c.args.other.now c.args.at c.loop-i.i true (omega arith) (eq-eqb _ _ c.if-rest-eq1.true));
-}
+returns-then-rest-eq1 c = (
+  c.loop-i.invariant.0,
+  c.loop-i-test.true,
+  rest_tells c.args.row.now c.args.other.now c.args.at c.loop-i.i true (omega arith) (eq-eqb _ _ c.if-rest-eq1.true),
+  c.loop-i.invariant.1,
+)
 
 pub loop-i-preserved : goal.loop-i-preserved
 loop-i-preserved c = (

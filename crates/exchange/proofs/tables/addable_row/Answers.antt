@@ -9,7 +9,7 @@ use Rattle.exchange.proofs.tables.addable_row.Goals.{then-not-holds, else-not-ho
 
 pub loop-x-preserved : goal.loop-x-preserved
 loop-x-preserved c = λ j h.
-    let f = allows c.args.file.now c.args.n c.args.rule in
+    let f = allows c.args.oracle.now.file.now c.args.oracle.now.n c.args.oracle.now.rule in
     let s = marked c.args.set.now in
     let x = c.loop-x.x in
     let said : c.if-not-holds.there ≡ addable f s x =

@@ -5,4 +5,4 @@ use Rattle.exchange.specs.Graph.{addable}
 use Rattle.exchange.proofs.tables.addable_row.Given as goal
 
 abbrev pub invariant-loop-x : goal.invariant-loop-x
-invariant-loop-x l = (x : ℕ) → x < l.x → marked l.row x ≡ addable (allows l.file l.n l.rule) (marked l.set) x
+invariant-loop-x l = (x : ℕ) → x < l.x → marked l.row x ≡ addable (allows l.oracle.file.now l.oracle.n l.oracle.rule) (marked l.set) x

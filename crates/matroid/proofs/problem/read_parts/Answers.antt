@@ -5,5 +5,5 @@ use Rattle.matroid.proofs.problem.read_parts.Goals as goal
 
 pub read_rules-requires : goal.read_rules-requires
 read_rules-requires c =
-    let w = weights_within c.args.file.now c.read_u16-n.result (omega arith) c.in_ok-check_weights.ensures in
+    let w = weights_within c.args.file.now c.read-n.result (omega arith) c.in_ok-check_weights.ensures in
     (omega arith, (omega arith, w))

@@ -5,7 +5,9 @@ use Rattle.sets.proofs.Transfer.{loaded_none, loaded_next, loaded_all}
 use Rattle.sets.proofs.words.load_row.Goals as goal
 
 pub loop-k-init : goal.loop-k-init
-loop-k-init c = (loaded_none _ _ _ _ _ _ c.clear_row.ensures.marks, λ p o. refl)
+loop-k-init c =
+    let d : c.div_ceil.result ≡ (c.args.n + 31) / 32 = omega arith in
+    (loaded_none _ _ _ _ _ _ (rw d at c.clear.ensures.members), λ p o. refl)
 
 pub loop-k-preserved : goal.loop-k-preserved
 loop-k-preserved c =
@@ -17,8 +19,7 @@ loop-k-preserved c =
 
 pub returns : goal.returns
 returns c =
+    let d : c.div_ceil.result ≡ (c.args.n + 31) / 32 = omega arith in
     let e : c.loop-k.k ≡ (c.args.n + 7) / 8 = omega arith in
-    record {
-      marks = loaded_all _ _ _ _ _ _ _ e c.loop-k.invariant.0;
-      rest = λ p o. c.loop-k.invariant.1 p o ∙ c.clear_row.ensures.rest p o;
-    }
+    let r = rw d at c.clear.ensures.rest in
+    record { marks = loaded_all _ _ _ _ _ _ _ e c.loop-k.invariant.0; rest = λ p o. c.loop-k.invariant.1 p o ∙ r p o }

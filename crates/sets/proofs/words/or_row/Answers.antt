@@ -1,6 +1,7 @@
 -- Each turn writes one word; the words of row `from` stay as they were.
-use Rattle.std.proofs.Common.{◌≡◌, ◌+◌, ◌/◌, ◌%◌, get_or, arith}
-use Rattle.sets.proofs.Stretches.{rewritten_none, rewritten_more, rewritten_all, rewritten_marks, rewritten_kept, rewritten_next, word_row_is}
+use Rattle.std.proofs.Common.{◌≡◌, ◌||◌, arith}
+use lib.Bits.{bit_or}
+use Rattle.sets.proofs.Stretches.{rewritten_none, rewritten_all, merged_more, merged_marks}
 use Rattle.sets.proofs.Masks.{bit_or_lem}
 use Rattle.sets.proofs.words.or_row.Goals as goal
 
@@ -8,23 +9,12 @@ pub loop-k-init : goal.loop-k-init
 loop-k-init c = rewritten_none _ _ _
 
 pub loop-k-preserved : goal.loop-k-preserved
-loop-k-preserved c =
-    let inv = c.loop-k.invariant in
-    let e = rewritten_kept _ _ _ _ _ c.args.from c.args.len inv c.requires.apart (omega arith) in
-    let f = rewritten_next _ _ _ _ _ inv in
-    rewritten_more _ _ _ _ _ _ (omega arith) (cc) inv
+loop-k-preserved c = merged_more bit_or c.args.from c.args.to _ c.args.len _ _ (omega arith) c.requires.apart (omega arith) c.loop-k.invariant
 
 pub returns : goal.returns
 returns c =
     let e : c.loop-k.k ≡ c.args.len = omega arith in
-    let r = rewritten_all _ _ _ _ _ _ e c.loop-k.invariant in
-    let xs = c.args.words.now in
     record {
-      marks = λ j h.
-          let a = rewritten_marks _ _ _ _ _ r j h in
-          let b = bit_or_lem (get_or xs (c.args.to + j / 32) 0) (get_or xs (c.args.from + j / 32) 0) (j % 32) in
-          let t = word_row_is xs c.args.to j in
-          let f = word_row_is xs c.args.from j in
-          cc;
-      rest = r.rest;
+      marks = merged_marks bit_or (◌||◌) bit_or_lem _ _ _ _ _ _ e c.loop-k.invariant;
+      rest = (rewritten_all _ _ _ _ _ _ e c.loop-k.invariant).rest;
     }

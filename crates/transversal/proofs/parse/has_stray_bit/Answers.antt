@@ -1,9 +1,12 @@
-use Rattle.std.proofs.Common.{sym, ◌∙◌, arith}
-use Rattle.transversal.proofs.Reading.{stray_from, clean_rows}
+use Rattle.std.proofs.Common.{◌-◌, ◌*◌, rules, refl, ◌∙◌, arith}
+use Rattle.std.proofs.lemmas.Iterator.{YieldsList-from_range}
+use Rattle.std.proofs.lemmas.Iterator.Search.{any_from_yields_List}
+use Rattle.sets.specs.Bits.{row, row_bytes}
+use Rattle.transversal.proofs.Reading.{any_is_some}
 use Rattle.transversal.proofs.parse.has_stray_bit.Goals as goal
 
-pub returns-then-contains : goal.returns-then-contains
-returns-then-contains c = sym (stray_from c.args.file.now c.args.n c.args.place c.loop-i.i (omega arith) (omega arith) (sym c.contains.ensures ∙ c.if-contains.true))
-
 pub returns : goal.returns
-returns c = sym (clean_rows c.args.file.now c.args.n c.args.place (λ j h l. c.loop-i.invariant j h (omega arith)))
+returns c =
+    any_from_yields_List (row c.args.file.now c.args.row) _ _ _ c.any.ensures.ran
+    (YieldsList-from_range c.args.n _ (8 * row_bytes c.args.n - c.args.n) refl (omega arith)) (λ x b q k. search rules)
+    ∙ any_is_some (row c.args.file.now c.args.row) c.args.n (8 * row_bytes c.args.n - c.args.n)

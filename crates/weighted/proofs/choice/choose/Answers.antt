@@ -16,14 +16,6 @@ overflow_mul-kept_length c =
     let k = kept_is n c.kept_length.result _ c.kept_length.ensures m.few (kept_small n m.few) in
     omega (arith, k)
 
-pub overflow_add-n-4 : goal.overflow_add-n-4
-overflow_add-n-4 c =
-    let m = c.in_ok-problem.ensures.meaning in
-    let n = c.in_ok-problem.problem.n in
-    let k = kept_is n c.kept_length.result _ c.kept_length.ensures m.few (kept_small n m.few) in
-    let w = work_small n c.kept_length.result m.few k in
-    omega (arith, w)
-
 -- the test on the lent words, by what is kept
 long_enough : (n kept full m : ℕ) → kept ≡ full → 5 * n + (n + 6) * row_words n + 2 * kept ≤ m → 5 * n + (n + 6) * row_words n + 2 * full ≤ m
 long_enough n kept full m e h = subst (λ (z : ℕ). 5 * n + (n + 6) * row_words n + 2 * z ≤ m) e h
@@ -33,13 +25,11 @@ choose_in-requires c =
     let m = c.in_ok-problem.ensures.meaning in
     let n = c.in_ok-problem.problem.n in
     record {
-      small = (m.some, m.few);
+      some = m.some;
       room = (c.if-sets-n.false, c.if-numbers-n.false);
       well = (means_well c.args.file.now c.in_ok-problem.problem m);
-      words = (
-        long_enough n c.kept_length.result _ (length c.args.work.now) c.kept_length.ensures c.if-work-n.false,
-        begins_within c.args.file.now n (rules_at n) c.in_ok-problem.problem.first m.first,
-      );
+      words = long_enough n c.kept_length.result _ (length c.args.work.now) c.kept_length.ensures c.if-work-n.false;
+      weights = begins_within c.args.file.now n (rules_at n) c.in_ok-problem.problem.first m.first;
       light = m.light;
     }
 

@@ -1,7 +1,0 @@
-use Rattle.certificate.specs.Layout.{part}
-use Rattle.std.proofs.Common.{rules}
-use Rattle.certificate.proofs.split.number.Goals as goal
-
-pub returns : goal.returns
-unfolding part
-returns c = search rules

@@ -1,5 +1,0 @@
-use Rattle.matroid.proofs.RuleLaws.{rule_matroid}
-use Rattle.matroid.proofs.functions.rules_are_matroids.Goals as goal
-
-pub returns : goal.returns
-returns c = rule_matroid

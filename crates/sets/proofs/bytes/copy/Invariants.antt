@@ -1,6 +1,0 @@
-use Rattle.std.proofs.Common.{◌+◌, get_or}
-use Rattle.sets.proofs.Stretches.{Rewritten}
-use Rattle.sets.proofs.bytes.copy.Given as goal
-
-abbrev pub invariant-loop-k : goal.invariant-loop-k
-invariant-loop-k l = Rewritten (λ p. get_or l.from (l.at + p) 0) l.to l.k l.initial.set l.set

@@ -1,8 +1,0 @@
-use Rattle.std.proofs.Common.{◌≡◌, ℕ, ◌<◌}
-use Rattle.sets.specs.Bits.{row_words}
-use Rattle.transversal.specs.Volunteers.{can_tend}
-use Rattle.transversal.specs.Pairs.{can_by}
-use Rattle.transversal.proofs.rows.load_rows.Given as goal
-
-abbrev pub invariant-loop-v : goal.invariant-loop-v
-invariant-loop-v l = (v x : ℕ) → v < l.v → x < l.n → can_by l.state l.n (row_words l.n) v x ≡ can_tend l.file l.n l.place v x

@@ -1,9 +1,0 @@
-use Rattle.std.proofs.Common.{◌≡◌, ℕ, ◌<◌, ◌≤◌}
-use Rattle.transversal.specs.Volunteers.{in_row}
-use Rattle.transversal.specs.Pairs.{at, can_by, start}
-use Rattle.transversal.proofs.rows.start_rows.Given as goal
-
-abbrev pub invariant-loop-y : goal.invariant-loop-y
-invariant-loop-y l =
-    ((y x : ℕ) → y < l.y → x < l.n → in_row l.state l.width y x ≡ start (can_by l.initial.state l.n l.width) l.volunteers (at l.tends) y x)
-    × ((k x : ℕ) → l.n ≤ k → x < l.n → in_row l.state l.width k x ≡ in_row l.initial.state l.width k x)
