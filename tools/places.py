@@ -63,8 +63,6 @@ for path in sorted(glob.glob(os.path.join(root, 'crates/*/src/**/*.rt'), recursi
             add('3 while and loop', path, n, code.strip())
         if re.search(r'^\s*(?:\'\w+: )?for \w+ in [^{]*\.\.', code):
             add('3 for over a range', path, n, code.strip())
-        if re.search(r'\(n \+ (?:7|31)\) / ', code):
-            add('3 library method', path, n, code.strip())
         if re.search(r'\bmatch (?:self|rule|refusal)\b', code):
             add('7 match on a kind', path, n, code.strip())
     for name, line, params, result, clauses, body in functions(text):

@@ -3,16 +3,14 @@ ghost use Rattle.std.specs.Prelude.{◌≡◌, ℕ, ◌+◌, ◌*◌, ◌<◌, �
 ghost use Rattle.exchange.specs.Graph.{at, takes, bettered, Changed, Cheapest, SmallLabels, Least};
 ghost use Rattle.exchange.specs.Labelling.{arcs_of, costs_of, LabelsFit, SameMemory};
 ghost use Rattle.exchange.specs.Rows.{First};
-ghost use Rattle.exchange.specs.Round.{top, no_worse, lost, behind, flipped, toggled};
+ghost use Rattle.exchange.specs.Round.{top, no_worse, lost, behind, toggled};
 ghost use Rattle.sets.specs.Bits.{marked, row_words};
 ghost use Rattle.sets.specs.Matroid.{both, outside};
 
+use crate::ends;
 use crate::graph::{Graph, Prices};
 use crate::rows::{Members, holds, next_head, put};
 use sets::bits::{clear, copy};
-
-// The largest weight.
-const TOP: u32 = 1_000_000;
 
 // Labels in lent words: which elements are reached and which of these are settled, what the way there costs, its steps and
 // the element before.
@@ -104,7 +102,7 @@ impl Labelling<'_> {
         requires few { n ≤ 600 }
         ensures { MatchOption result ((v : ℕ) → v < n → outside (marked self.now.reached.now) (marked self.now.settled.now) v ≡ false) (λ m. Least n (outside (marked self.now.reached.now) (marked self.now.settled.now)) (at self.now.costs.now) (at self.now.steps.now) m) }
     {
-        // Of a chain of `filter` and `min_by_key` it stayed open that it gives a least label.
+        // A loop, since of a chain of `filter` and `min_by_key` it is not proved that it gives a least label.
         let mut least = None;
         for v in Members::open(self.reached, self.settled, n) {
             if self.nearer(v, least) {
@@ -154,27 +152,7 @@ impl Labelling<'_> {
         requires small { at self.now.costs.now x + at prices.now.potentials.now x ≤ 602 * top }
         ensures { result ≡ lost (at prices.now.weights.now) (at prices.now.potentials.now) (at self.now.costs.now) x }
     {
-        self.costs[x] + prices.potentials[x] + (TOP - prices.weights[x])
-    }
-
-    // Is the path that ends in x better than the best so far?
-    fn better_end(&self, n: usize, prices: &Prices, x: usize, best: Option<usize>) -> bool
-        requires weights { n ≤ length prices.now.weights.now }
-        requires potentials { n ≤ length prices.now.potentials.now }
-        requires costs { n ≤ length self.now.costs.now }
-        requires steps { n ≤ length self.now.steps.now }
-        requires light { (v : ℕ) → v < n → at prices.now.weights.now v ≤ top }
-        requires below { x < n }
-        requires small { at self.now.costs.now x + at prices.now.potentials.now x ≤ 602 * top }
-        requires so_far { IfSome best (λ t. (t < n) × (at self.now.costs.now t + at prices.now.potentials.now t ≤ 602 * top)) }
-        ensures { MatchOption best (result ≡ true) (λ t. result ≡ not (no_worse (lost (at prices.now.weights.now) (at prices.now.potentials.now) (at self.now.costs.now) t) (at self.now.steps.now t) (lost (at prices.now.weights.now) (at prices.now.potentials.now) (at self.now.costs.now) x) (at self.now.steps.now x))) }
-    {
-        match best {
-            Some(t) => {
-                (self.loss(prices, x), self.steps[x]) < (self.loss(prices, t), self.steps[t])
-            }
-            None => true,
-        }
+        ends::loss(prices, self.costs, x)
     }
 
     // The reached sink below n at which the path loses least, and of these the one of fewest steps.
@@ -190,14 +168,7 @@ impl Labelling<'_> {
         requires small { SmallLabels n (at prices.now.weights.now) (at prices.now.potentials.now) (marked self.now.reached.now) (at self.now.costs.now) (at self.now.steps.now) n }
         ensures { MatchOption result ((x : ℕ) → x < n → both (marked sinks.now) (marked self.now.reached.now) x ≡ false) (λ t. Least n (both (marked sinks.now) (marked self.now.reached.now)) (lost (at prices.now.weights.now) (at prices.now.potentials.now) (at self.now.costs.now)) (at self.now.steps.now) t) }
     {
-        // Of a chain of `filter` and `min_by_key` it stayed open that its keys can be computed, and that it gives a least one.
-        let mut best = None;
-        for x in 0..n {
-            if holds(sinks, x) && holds(self.reached, x) && self.better_end(n, prices, x, best) {
-                best = Some(x);
-            }
-        }
-        best
+        ends::best_end(n, prices, sinks, self.reached, self.costs, self.steps)
     }
 
     // Changes the side of each element of the path that ends in `end`.
@@ -206,21 +177,8 @@ impl Labelling<'_> {
         requires within { (j : ℕ) → j < at self.now.steps.now end → (behind (at self.now.back.now) end j < length self.now.back.now) × (behind (at self.now.back.now) end j < 32 * length set.old) }
         ensures { (x : ℕ) → marked set.new x ≡ toggled (marked set.old) (at self.now.back.now) end (at self.now.steps.now end) x }
     {
-        let mut v = end;
-        for _ in 0..self.steps[end] {
-            flip(set, v);
-            v = self.back[v] as usize;
-        }
+        ends::toggle_path(set, self.back, end, self.steps[end]);
     }
-}
-
-// Changes the side of x.
-fn flip(set: &mut [u32], x: usize)
-    requires { x < 32 * length set.old }
-    ensures { (j : ℕ) → marked set.new j ≡ flipped (marked set.old) x j }
-{
-    let there = holds(set, x);
-    put(set, x, !there);
 }
 
 impl Graph<'_, '_> {

@@ -3,6 +3,7 @@
 #![tactic(auto)]
 
 mod dual;
+pub mod ends;
 pub mod examples;
 pub mod graph;
 pub mod labelling;

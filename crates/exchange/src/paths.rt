@@ -1,8 +1,8 @@
 // The work of one round: a best augmenting path, or the dual set where there is none.
 ghost use Rattle.std.specs.Prelude.{◌≡◌, ℕ, ◌+◌, ◌-◌, ◌*◌, ◌<◌, ◌≤◌, true, false, length, MatchOption};
 ghost use Rattle.exchange.specs.Graph.{at, Tables, SmallLabels};
-ghost use Rattle.exchange.specs.Memory.{TablesFit, SpaceFits, space_words};
-ghost use Rattle.exchange.specs.Labelling.{LabelsFit};
+ghost use Rattle.exchange.specs.Memory.{TablesFit, SpaceFits, SameSpace, space_words};
+ghost use Rattle.exchange.specs.Labelling.{LabelsFit, SameMemory};
 ghost use Rattle.exchange.specs.Predecessors.{Predecessors};
 ghost use Rattle.exchange.specs.Round.{top, State, Labels, End, Closed, behind};
 ghost use Rattle.matroid.specs.Optimal.{Dual};
@@ -34,6 +34,7 @@ fn search<'g>(
     requires state { (loss : ℕ) × State offers.now.problem.n (by_first offers.now.file.now offers.now.problem) (by_second offers.now.file.now offers.now.problem) (at prices.now.weights.now) (at prices.now.potentials.now) loss (marked set.now) × (loss ≤ 601 * top) }
     requires tables { Tables offers.now.problem.n (by_first offers.now.file.now offers.now.problem) (by_second offers.now.file.now offers.now.problem) (marked set.now) tables.now.arcs.now tables.now.sources.now tables.now.sinks.now }
     ensures labels_fit { LabelsFit offers.now.problem.n labels.new }
+    ensures memory { SameMemory labels.old labels.new }
     ensures labels { Labels offers.now.problem.n (by_first offers.now.file.now offers.now.problem) (by_second offers.now.file.now offers.now.problem) (at prices.now.weights.now) (at prices.now.potentials.now) (marked set.now) (marked labels.new.reached.now) (at labels.new.costs.now) (at labels.new.steps.now) (at labels.new.back.now) }
     ensures small { SmallLabels offers.now.problem.n (at prices.now.weights.now) (at prices.now.potentials.now) (marked labels.new.reached.now) (at labels.new.costs.now) (at labels.new.steps.now) offers.now.problem.n }
     ensures ends { MatchOption result (Closed offers.now.problem.n (by_first offers.now.file.now offers.now.problem) (by_second offers.now.file.now offers.now.problem) (marked set.now) (marked dual.new)) (λ t. End offers.now.problem.n (by_second offers.now.file.now offers.now.problem) (at prices.now.weights.now) (at prices.now.potentials.now) (marked set.now) (marked labels.new.reached.now) (at labels.new.costs.now) (at labels.new.steps.now) t) }
@@ -118,6 +119,7 @@ impl<'a> Workspace<'a> {
         requires light { (x : ℕ) → x < offers.now.problem.n → at prices.now.weights.now x ≤ top }
         requires state { (loss : ℕ) × State offers.now.problem.n (by_first offers.now.file.now offers.now.problem) (by_second offers.now.file.now offers.now.problem) (at prices.now.weights.now) (at prices.now.potentials.now) loss (marked set.now) × (loss ≤ 601 * top) }
         ensures room { SpaceFits offers.now.problem.n self.new }
+        ensures memory { SameSpace self.old self.new }
         ensures asked { result.asked ≡ 2 * size offers.now.problem.n (marked set.now) * (offers.now.problem.n - size offers.now.problem.n (marked set.now)) }
         ensures tables { Tables offers.now.problem.n (by_first offers.now.file.now offers.now.problem) (by_second offers.now.file.now offers.now.problem) (marked set.now) self.new.tables.arcs.now self.new.tables.sources.now self.new.tables.sinks.now }
         ensures labels { Labels offers.now.problem.n (by_first offers.now.file.now offers.now.problem) (by_second offers.now.file.now offers.now.problem) (at prices.now.weights.now) (at prices.now.potentials.now) (marked set.now) (marked self.new.labels.reached.now) (at self.new.labels.costs.now) (at self.new.labels.steps.now) (at self.new.labels.back.now) }

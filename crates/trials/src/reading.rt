@@ -1,4 +1,4 @@
-// Files that are refused, each with its number and place, and files at the edge that are not.
+// Files that are refused, each with its refusal, and files at the edge that are not.
 use crate::build;
 use crate::tally::Tally;
 use matroid::problem::read;
@@ -34,7 +34,7 @@ fn damaged(
     Ok(())
 }
 
-// Every shorter beginning of a well-formed file is refused by 1 at its length, and so is one byte more.
+// Every shorter beginning of a well-formed file is refused for its length, and so is one byte more.
 fn cuts(rt: &HostRuntime, t: &mut Tally, name: &str, file: &[u8]) -> io::Result<()> {
     expect(rt, t, name, file, Ok(()))?;
     for end in 0..file.len() {

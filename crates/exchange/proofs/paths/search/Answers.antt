@@ -61,6 +61,7 @@ returns-then-is_none c =
     c.best_end-end.result (c.is_none.ensures ∙ ap not c.if-is_none.true) c.best_end-end.ensures c.dual_set.ensures in
     record {
       labels_fit = labels_still_fit n c.args.labels.now l c.requires.labels_fit c.spread.ensures.memory;
+      memory = c.spread.ensures.memory;
       labels = ls;
       small = c.spread.ensures.small;
       ends = es;
@@ -96,6 +97,7 @@ returns-else-is_none c =
     c.best_end-end.result (c.is_none.ensures ∙ ap not c.if-is_none.false) c.best_end-end.ensures in
     record {
       labels_fit = labels_still_fit n c.args.labels.now l c.requires.labels_fit c.spread.ensures.memory;
+      memory = c.spread.ensures.memory;
       labels = ls;
       small = c.spread.ensures.small;
       ends = es;

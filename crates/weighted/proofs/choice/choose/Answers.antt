@@ -2,7 +2,7 @@ use Rattle.std.proofs.Common.{◌≡◌, ℕ, ◌+◌, ◌*◌, ◌≤◌, lengt
 use Rattle.matroid.specs.Problem.{rules_at}
 use Rattle.matroid.proofs.FileReading.{means_well}
 use Rattle.sets.specs.Bits.{row_words}
-use Rattle.weighted.proofs.Lengths.{kept_small, begins_within, admits, work_small, choice}
+use Rattle.weighted.proofs.Lengths.{kept_small, begins_within, admits, choice}
 use Rattle.weighted.proofs.choice.choose.Goals as goal
 
 -- what is kept, by its number

@@ -5,18 +5,18 @@ use Rattle.sets.specs.Matroid.{both}
 use Rattle.exchange.specs.Round.{lost}
 use Rattle.exchange.specs.Graph.{at}
 use Rattle.exchange.proofs.Leasts.{SoFar, passed, stays, moves}
-use Rattle.exchange.proofs.labelling.Labelling.best_end.Goals as goal
-use Rattle.exchange.proofs.labelling.Labelling.best_end.Goals.{then-holds+then-holds-2+then-better_end, else-holds, else-holds-via-then-holds+then-holds-2+else-better_end, else-holds-via-then-holds+else-holds-2, else-holds-via-else-holds}
+use Rattle.exchange.proofs.ends.best_end.Goals as goal
+use Rattle.exchange.proofs.ends.best_end.Goals.{then-holds+then-holds-2+then-better_end, else-holds, else-holds-via-then-holds+then-holds-2+else-better_end, else-holds-via-then-holds+else-holds-2, else-holds-via-else-holds}
 
 pub loop-x-preserved : goal.loop-x-preserved
 loop-x-preserved c =
     let i = c.loop-x.x in
-    let among = both (marked c.args.sinks.now) (marked c.args.self.now.reached.now) in
-    let d = lost (at c.args.prices.now.weights.now) (at c.args.prices.now.potentials.now) (at c.args.self.now.costs.now) in
-    let k = at c.args.self.now.steps.now in
+    let among = both (marked c.args.sinks.now) (marked c.args.reached.now) in
+    let d = lost (at c.args.prices.now.weights.now) (at c.args.prices.now.potentials.now) (at c.args.costs.now) in
+    let k = at c.args.steps.now in
     let Q : Option ℕ → Type 0 = SoFar (i + 1) among d k in
     let sink = marked c.args.sinks.now i in
-    let there = marked c.args.self.now.reached.now i in
+    let there = marked c.args.reached.now i in
     elim c.if-holds.branch [
       | then-holds+then-holds-2+then-better_end w ↦
           subst Q (sym w.best-is)
