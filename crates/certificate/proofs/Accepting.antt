@@ -1,8 +1,10 @@
 -- From a file's meaning to the check of a certificate, and back.
-use Rattle.std.proofs.Common.{◌≡◌, ℕ, List, Ok, Err, Result, sym, ◌∙◌, subst, arith}
+use Rattle.std.proofs.Common.{◌≡◌, ℕ, ◌≤◌, List, length, Ok, Err, Result, sym, ◌∙◌, subst, arith}
 use Rattle.sets.specs.declared.refusal.Refusal.{Refusal}
 use Rattle.matroid.specs.declared.problem.Problem.{Problem}
-use Rattle.matroid.specs.Problem.{weight_of, Means}
+use Rattle.matroid.specs.declared.rule.Rule.{Rule}
+use Rattle.matroid.specs.declared.rule.Rule.TheVariants.{Limits, Volunteers, Links, Rows}
+use Rattle.matroid.specs.Problem.{weight_of, rules_at, Means, Stands}
 use Rattle.matroid.specs.Reading as reading
 use Rattle.matroid.proofs.FileReading.{means_well, reads_meaning}
 use Rattle.matroid.proofs.RuleLaws.{rule_matroid}
@@ -10,9 +12,28 @@ use Rattle.certificate.specs.Accepted.{Certified, Proven}
 use Rattle.certificate.specs.Faults.{Fault, FirstFault}
 use Rattle.certificate.specs.Layout.{count}
 use Rattle.matroid.specs.TwoRules.{by_first, by_second}
-use Rattle.certificate.specs.Validity.{Valid}
+use Rattle.certificate.specs.Validity.{Usable, Valid}
 use Rattle.certificate.proofs.Soundness.{shows_largest, shows_heaviest}
 use Rattle.certificate.proofs.Validating.{no_fault}
+
+-- a rule that stands at a place is behind it
+behind : (file : List ℕ) (n p : ℕ) (rule : Rule) → Stands file n p rule → p ≤ length file
+behind file n p (Limits groups at) h = let l = h.0 in omega arith
+behind file n p (Volunteers volunteers at) h = let l = h.0 in omega arith
+behind file n p (Links towns at) h = let l = h.0 in omega arith
+behind file n p (Rows prime long at) h = let l = h.0 in omega arith
+
+-- what a file means can be asked: what a caller of `Claim::check` shows
+pub usable : (file : List ℕ) (problem : Problem) → Means file problem → Usable file problem
+usable file problem m =
+    let w = means_well file problem m in
+    record {
+      some = m.some;
+      few = m.few;
+      weights = behind file problem.n (rules_at problem.n) problem.first m.first;
+      first = w.0;
+      second = w.1;
+    }
 
 -- a valid certificate proves what it should
 pub proven : (file sheet : List ℕ) (problem : Problem) (k : ℕ) → Means file problem → k ≡ count problem.n sheet →

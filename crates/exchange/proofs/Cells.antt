@@ -113,12 +113,12 @@ row_joined n old new v u g each p q here so =
       λ j h k. cell j k ∙ ap (λ (b : Bool). pick b true (table n old v j)) (ne_eqb j u (λ e. omega arith)) ∙ so.1 j (omega arith) k,
     )
 
--- the other rows stay where an arc is put in
-pub rows_kept : (n : ℕ) (old new : List ℕ) (v u : ℕ) →
-    ((i j : ℕ) → i < n → j < n → table n new i j ≡ pick (eqb i v && eqb j u) true (table n old i j)) →
+-- the other rows stay where an arc is put in or taken out
+pub rows_kept : (n : ℕ) (old new : List ℕ) (v u : ℕ) (there : Bool) →
+    ((i j : ℕ) → i < n → j < n → table n new i j ≡ pick (eqb i v && eqb j u) there (table n old i j)) →
     (i j : ℕ) → i < n → j < n → (i ≡ v → ⊥) → table n new i j ≡ table n old i j
-rows_kept n old new v u each i j p q e =
-    each i j p q ∙ ap (λ (b : Bool). pick (b && eqb j u) true (table n old i j)) (ne_eqb i v e)
+rows_kept n old new v u there each i j p q e =
+    each i j p q ∙ ap (λ (b : Bool). pick (b && eqb j u) there (table n old i j)) (ne_eqb i v e)
 
 -- one row more of the table
 pub row_more : (n : ℕ) (old new : List ℕ) (x : ℕ) (g : ℕ → ℕ → Bool) → x < n →

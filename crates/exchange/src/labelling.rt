@@ -23,6 +23,15 @@ pub struct Labelling<'a> {
     pub back: &'a mut [u32],
 }
 
+// Makes the first n numbers equal to the value; the others stay.
+fn fill_front(numbers: &mut [u32], n: usize, value: u32)
+    requires { n ≤ length numbers.old }
+    ensures front { (x : ℕ) → x < n → at numbers.new x ≡ value }
+    ensures rest { (x : ℕ) → n ≤ x → at numbers.new x ≡ at numbers.old x }
+{
+    numbers[..n].fill(value);
+}
+
 impl Labelling<'_> {
     // Is there no label at u, or a worse one than (cost, step)?
     fn takes(&self, u: usize, cost: u32, step: u32) -> bool
@@ -122,8 +131,8 @@ impl Labelling<'_> {
     {
         copy(sources, 0, self.reached, 0, n.div_ceil(32));
         clear(self.settled, 0, n.div_ceil(32));
-        self.costs.fill(0);
-        self.steps.fill(1);
+        fill_front(self.costs, n, 0);
+        fill_front(self.steps, n, 1);
     }
 
     // Labels all elements that can be reached from the sources: what the way there costs, its steps and the element before.

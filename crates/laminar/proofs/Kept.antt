@@ -9,7 +9,7 @@ use Rattle.sets.proofs.Stretches.{word_row_is}
 use Rattle.sets.proofs.FiniteSets.{look_up}
 
 -- a number of k bits none of which is set is 0
-no_bits : (k v : ℕ) → v < 2 ^ k → ((j : ℕ) → j < k → bit v j ≡ false) → v ≡ 0
+pub no_bits : (k v : ℕ) → v < 2 ^ k → ((j : ℕ) → j < k → bit v j ≡ false) → v ≡ 0
 no_bits zero v l h = omega arith
 no_bits (suc k) v l h =
     let z : v % 2 ≡ 0 = low v (h 0 (omega arith)) in
@@ -33,13 +33,13 @@ bits_answer v s ok l bits stop go =
     (look_up 64 s)
 
 -- the low and the high half of a row of 64 bits are its two words
-row_low : (xs : List ℕ) (at j : ℕ) → j < 32 → bit (get_or xs at 0) j ≡ word_row xs at j
+pub row_low : (xs : List ℕ) (at j : ℕ) → j < 32 → bit (get_or xs at 0) j ≡ word_row xs at j
 row_low xs at j l =
     let p : at + j / 32 ≡ at = omega arith in
     let q : j % 32 ≡ j = omega arith in
     sym (rw (p, q) at (word_row_is xs at j))
 
-row_high : (xs : List ℕ) (at j : ℕ) → j < 32 → bit (get_or xs (at + 1) 0) j ≡ word_row xs at (32 + j)
+pub row_high : (xs : List ℕ) (at j : ℕ) → j < 32 → bit (get_or xs (at + 1) 0) j ≡ word_row xs at (32 + j)
 row_high xs at j l =
     let p : at + (32 + j) / 32 ≡ at + 1 = omega arith in
     let q : (32 + j) % 32 ≡ j = omega arith in

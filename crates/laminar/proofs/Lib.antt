@@ -1,3 +1,4 @@
+pub mod Bytes
 pub mod Fits
 pub mod Keeping
 pub mod Kept

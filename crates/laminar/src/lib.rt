@@ -3,7 +3,7 @@
 // byte first, and a row of bits, bit i for offer i.
 #![tactic(auto)]
 
-ghost use Rattle.std.specs.Prelude.{◌≡◌, ℕ, ◌+◌, ◌-◌, ◌*◌, ◌/◌, ◌%◌, ◌^◌, ◌<◌, ◌≤◌, true, false, length, ◌==◌};
+ghost use Rattle.std.specs.Prelude.{◌≡◌, ℕ, ◌+◌, ◌-◌, ◌*◌, ◌/◌, ◌%◌, ◌^◌, ◌<◌, ◌≤◌, true, false, min, length, ◌==◌, slice_index};
 ghost use Rattle.sets.specs.Bits.{row, row_bytes, row_words, word_row, marked};
 ghost use Rattle.sets.specs.Matroid.{size, both, outside, with, without};
 ghost use Rattle.laminar.specs.Limits.{group_bytes, group_at, limit, in_group, allows, kept_length, Well, Ready, Marked, ReadingAgrees, LimitsMatroid};
@@ -72,13 +72,24 @@ impl Limits<'_> {
         bits::contains(self.file, self.group_at(g) + 2, i)
     }
 
+    // Byte k of the row of group g, without the bits behind the last offer.
+    fn offers_in(&self, g: usize, k: usize) -> u8
+        requires byte { k < row_bytes self.now.n }
+        requires within { group_at self.now.n self.now.at g + group_bytes self.now.n ≤ length self.now.file.now }
+        ensures { result ≡ slice_index self.now.file.now (group_at self.now.n self.now.at g + 2 + k) % 2 ^ min 8 (self.now.n - 8 * k) }
+    {
+        let byte = self.file[self.group_at(g) + 2 + k];
+        let left = self.n - 8 * k;
+        if left < 8 { byte % (1 << left) } else { byte }
+    }
+
     // Do groups g and h share an offer?
     fn share(&self, g: usize, h: usize) -> bool
         requires first { group_at self.now.n self.now.at g + group_bytes self.now.n ≤ length self.now.file.now }
         requires second { group_at self.now.n self.now.at h + group_bytes self.now.n ≤ length self.now.file.now }
         ensures { result ≡ some self.now.n (both (in_group self.now.file.now self.now.n self.now.at g) (in_group self.now.file.now self.now.n self.now.at h)) }
     {
-        (0..self.n).any(|i| self.in_group(g, i) && self.in_group(h, i))
+        (0..self.row_bytes()).any(|k| self.offers_in(g, k) & self.offers_in(h, k) != 0)
     }
 
     // Has group g an offer that group h lacks?
@@ -87,7 +98,7 @@ impl Limits<'_> {
         requires second { group_at self.now.n self.now.at h + group_bytes self.now.n ≤ length self.now.file.now }
         ensures { result ≡ some self.now.n (outside (in_group self.now.file.now self.now.n self.now.at g) (in_group self.now.file.now self.now.n self.now.at h)) }
     {
-        (0..self.n).any(|i| self.in_group(g, i) && !self.in_group(h, i))
+        (0..self.row_bytes()).any(|k| self.offers_in(g, k) & !self.offers_in(h, k) != 0)
     }
 
     // Do groups g and h share an offer, while each has one that the other lacks?

@@ -49,10 +49,8 @@ impl Rows<'_> {
     {
         let row = self.row_of(v);
         for k in 0..self.n.div_ceil(32) {
-            if self.words[row + k] | reached[k] != reached[k] {
-                if let Some(y) = self.fresh_in(row, reached, k) {
-                    return Some(y);
-                }
+            if let Some(y) = self.fresh_in(row, reached, k) {
+                return Some(y);
             }
         }
         None
@@ -65,8 +63,10 @@ impl Rows<'_> {
         requires few { k < 19 }
         ensures { MatchOption result ((y : ℕ) → 32 * k ≤ y → y < 32 * k + 32 → y < self.now.n → word_row self.now.words.now row y ≡ true → word_row reached.now 0 y ≡ true) (λ y. (y < self.now.n) × (word_row self.now.words.now row y ≡ true) × (word_row reached.now 0 y ≡ false)) }
     {
-        let end = self.n.min(32 * k + 32);
-        (32 * k..end).find(|&y| contains(self.words, row, y) && !contains(reached, 0, y))
+        let fresh = self.words[row + k] & !reached[k];
+        // The lowest bit; bits of the last word from n on are no offers.
+        let y = 32 * k + fresh.trailing_zeros() as usize;
+        (fresh != 0 && y < self.n).then_some(y)
     }
 }
 

@@ -21,23 +21,15 @@ pub fn matched(rows: &[u8], set: u8) -> bool {
         .all(|part| part.count_ones() as usize <= helpers(rows, part))
 }
 
-// In how many links of the set a town is an end, a link of a town with itself twice.
-fn degree(ends: &[(u16, u16)], set: u8, town: u16) -> usize {
-    let begins = ends
-        .iter()
-        .enumerate()
-        .filter(|(i, (from, _))| has(set, *i) && *from == town)
-        .count();
-    let leads = ends
-        .iter()
-        .enumerate()
-        .filter(|(i, (_, to))| has(set, *i) && *to == town)
-        .count();
-    begins.saturating_add(leads)
+// Does the set meet the town an even number of times? A link of a town with itself meets it twice.
+fn meets_evenly(ends: &[(u16, u16)], set: u8, town: u16) -> bool {
+    ends.iter().enumerate().fold(true, |even, (i, (from, to))| {
+        even != (has(set, i) && (*from == town) != (*to == town))
+    })
 }
 
 fn all_even(ends: &[(u16, u16)], set: u8, towns: u16) -> bool {
-    (0..towns).all(|town| degree(ends, set, town) % 2 == 0)
+    (0..towns).all(|town| meets_evenly(ends, set, town))
 }
 
 // No part of the set, but the empty one, meets every town an even number of times.
@@ -45,42 +37,50 @@ pub fn ringless(ends: &[(u16, u16)], towns: u16, set: u8) -> bool {
     !(1..=255u8).any(|part| part & set == part && all_even(ends, part, towns))
 }
 
-// The multiple of offer i in a combination: its digit i in the base of the prime.
-fn digit(combination: u64, prime: u8, i: usize) -> u64 {
-    if prime == 0 {
-        return 0;
-    }
-    let base = u64::from(prime);
-    (0..i).fold(combination, |left, _| left / base) % base
-}
-
-// Whether a combination of the rows of the set is zero in a column.
+// Whether a combination of the rows of the set is zero in a column. The multiple of offer i in it is its digit i in the base of the prime.
 fn zero_at(
     numbers: &[u8],
     prime: u8,
     length: usize,
     column: usize,
     set: u8,
-    combination: u64,
+    combination: u32,
 ) -> bool {
-    let sum = (0..8usize).filter(|i| has(set, *i)).fold(0u64, |sum, i| {
+    if prime == 0 {
+        return false;
+    }
+    let base = u32::from(prime);
+    let (_, sum) = (0..8usize).fold((combination, 0u32), |(left, sum), i| {
         let at = (i % 8) * length.min(64) + column.min(64);
         let number = numbers.get(at).copied().unwrap_or(0);
-        sum.wrapping_add(digit(combination, prime, i).wrapping_mul(u64::from(number)))
+        let digit = if has(set, i) { left % base } else { 0 };
+        (
+            left / base,
+            sum.wrapping_add(digit.wrapping_mul(u32::from(number))),
+        )
     });
-    prime != 0 && sum % u64::from(prime) == 0
+    sum % base == 0
 }
 
-fn vanishes(numbers: &[u8], prime: u8, length: usize, set: u8, combination: u64) -> bool {
+fn vanishes(numbers: &[u8], prime: u8, length: usize, set: u8, combination: u32) -> bool {
     (0..length).all(|column| zero_at(numbers, prime, length, column, set, combination))
 }
 
-// Whether a combination has a multiple other than 0 at an offer outside of the set.
-fn strays(prime: u8, set: u8, combination: u64) -> bool {
-    (0..8usize).any(|i| !has(set, i) && digit(combination, prime, i) != 0)
+// Whether a combination has a multiple other than 0 at an offer outside of the set: its digits, the lowest first.
+fn strays(prime: u8, set: u8, combination: u32) -> bool {
+    if prime == 0 {
+        return false;
+    }
+    let base = u32::from(prime);
+    (0..8usize)
+        .try_fold(combination, |left, i| {
+            let digit = left % base;
+            (digit == 0 || has(set, i)).then_some(left / base)
+        })
+        .is_none()
 }
 
 // No combination of the rows of the set, but the one of zeros, vanishes. There are `combinations` of them.
-pub fn unrelated(numbers: &[u8], prime: u8, length: usize, set: u8, combinations: u64) -> bool {
+pub fn unrelated(numbers: &[u8], prime: u8, length: usize, set: u8, combinations: u32) -> bool {
     !(1..combinations).any(|c| !strays(prime, set, c) && vanishes(numbers, prime, length, set, c))
 }

@@ -24,12 +24,12 @@ impl Table {
 }
 
 // All combinations of n multiples below the prime, at most a hundred thousand.
-fn combinations(prime: u8, n: u16) -> u64 {
+fn combinations(prime: u8, n: u16) -> u32 {
     let mut all = 1u64;
     for _ in 0..n {
         all = all.wrapping_mul(u64::from(prime));
     }
-    all.min(100_000)
+    all.min(100_000) as u32
 }
 
 impl Given {

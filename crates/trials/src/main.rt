@@ -9,6 +9,7 @@ mod kinds;
 mod reading;
 mod sheets;
 mod tally;
+mod told;
 
 use std::io;
 

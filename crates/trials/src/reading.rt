@@ -1,6 +1,7 @@
-// Files that are refused, each with its refusal, and files at the edge that are not.
+// Files that are refused, each with its refusal, number and place, and files at the edge that are not.
 use crate::build;
 use crate::tally::Tally;
+use crate::told::{Told, comes_to};
 use matroid::problem::read;
 use sets::refusal::{Refusal, Source};
 use std::io;
@@ -11,9 +12,9 @@ fn expect(
     t: &mut Tally,
     name: &str,
     file: &[u8],
-    want: Result<(), Refusal>,
+    want: Result<(), Told>,
 ) -> io::Result<()> {
-    t.note(rt, name, read(file).map(|_| ()) == want)
+    t.note(rt, name, comes_to(read(file).map(|_| ()), want))
 }
 
 // One byte changed in turn: its place and new value, and what that should come to.
@@ -22,7 +23,7 @@ fn damaged(
     t: &mut Tally,
     name: &str,
     file: &[u8],
-    table: &[(usize, u8, Result<(), Refusal>)],
+    table: &[(usize, u8, Result<(), Told>)],
 ) -> io::Result<()> {
     for (at, byte, want) in table {
         let mut copy = file.to_vec(rt.alloc())?;
@@ -43,7 +44,7 @@ fn cuts(rt: &HostRuntime, t: &mut Tally, name: &str, file: &[u8]) -> io::Result<
             t,
             name,
             &file[0..end],
-            Err(Refusal::Length(Source::Offers, end)),
+            Err(Told(Refusal::Length(Source::Offers, end), 1, end as u128)),
         )?;
     }
     let mut longer = file.to_vec(rt.alloc())?;
@@ -53,7 +54,11 @@ fn cuts(rt: &HostRuntime, t: &mut Tally, name: &str, file: &[u8]) -> io::Result<
         t,
         name,
         &longer,
-        Err(Refusal::Length(Source::Offers, file.len())),
+        Err(Told(
+            Refusal::Length(Source::Offers, file.len()),
+            1,
+            file.len() as u128,
+        )),
     )
 }
 
@@ -72,30 +77,62 @@ fn limits_and_volunteers(rt: &HostRuntime, t: &mut Tally) -> io::Result<()> {
         "limits and volunteers, damaged",
         &file,
         &[
-            (0, 0, Err(Refusal::Offers)),
-            (1, 3, Err(Refusal::Offers)),
-            (5, 1, Err(Refusal::Weight(2))),
-            (9, 255, Err(Refusal::Weight(6))),
-            (13, 1, Err(Refusal::Weight(10))),
-            (14, 0, Err(Refusal::Kind(14))),
-            (14, 5, Err(Refusal::Kind(14))),
-            (15, 65, Err(Refusal::Range(Source::Offers, 15))),
-            (15, 255, Err(Refusal::Range(Source::Offers, 15))),
-            (17, 3, Err(Refusal::Range(Source::Offers, 16))),
-            (18, 0b1000, Err(Refusal::Range(Source::Offers, 18))),
-            (18, 0b1000_0000, Err(Refusal::Range(Source::Offers, 18))),
-            (21, 0b110, Err(Refusal::Overlap(19))),
-            (21, 0b1110, Err(Refusal::Overlap(19))),
-            (21, 0b1011, Err(Refusal::Range(Source::Offers, 21))),
+            (0, 0, Err(Told(Refusal::Offers, 2, 0))),
+            (1, 3, Err(Told(Refusal::Offers, 2, 0))),
+            (5, 1, Err(Told(Refusal::Weight(2), 3, 2))),
+            (9, 255, Err(Told(Refusal::Weight(6), 3, 6))),
+            (13, 1, Err(Told(Refusal::Weight(10), 3, 10))),
+            (14, 0, Err(Told(Refusal::Kind(14), 4, 14))),
+            (14, 5, Err(Told(Refusal::Kind(14), 4, 14))),
+            (15, 65, Err(Told(Refusal::Range(Source::Offers, 15), 5, 15))),
+            (
+                15,
+                255,
+                Err(Told(Refusal::Range(Source::Offers, 15), 5, 15)),
+            ),
+            (17, 3, Err(Told(Refusal::Range(Source::Offers, 16), 5, 16))),
+            (
+                18,
+                0b1000,
+                Err(Told(Refusal::Range(Source::Offers, 18), 5, 18)),
+            ),
+            (
+                18,
+                0b1000_0000,
+                Err(Told(Refusal::Range(Source::Offers, 18), 5, 18)),
+            ),
+            (21, 0b110, Err(Told(Refusal::Overlap(19), 6, 19))),
+            (21, 0b1110, Err(Told(Refusal::Overlap(19), 6, 19))),
+            (
+                21,
+                0b1011,
+                Err(Told(Refusal::Range(Source::Offers, 21), 5, 21)),
+            ),
             (21, 0b011, Ok(())),
             (21, 0b100, Ok(())),
             (21, 0b001, Ok(())),
             (21, 0, Ok(())),
-            (20, 255, Err(Refusal::Range(Source::Offers, 19))),
-            (22, 7, Err(Refusal::Kind(22))),
-            (24, 255, Err(Refusal::Range(Source::Offers, 23))),
-            (25, 0b1000, Err(Refusal::Range(Source::Offers, 25))),
-            (26, 0b1_0000, Err(Refusal::Range(Source::Offers, 26))),
+            (
+                20,
+                255,
+                Err(Told(Refusal::Range(Source::Offers, 19), 5, 19)),
+            ),
+            (22, 7, Err(Told(Refusal::Kind(22), 4, 22))),
+            (
+                24,
+                255,
+                Err(Told(Refusal::Range(Source::Offers, 23), 5, 23)),
+            ),
+            (
+                25,
+                0b1000,
+                Err(Told(Refusal::Range(Source::Offers, 25), 5, 25)),
+            ),
+            (
+                26,
+                0b1_0000,
+                Err(Told(Refusal::Range(Source::Offers, 26), 5, 26)),
+            ),
             (26, 0, Ok(())),
         ],
     )
@@ -112,28 +149,32 @@ fn links_and_rows(rt: &HostRuntime, t: &mut Tally) -> io::Result<()> {
         "links and rows, damaged",
         &file,
         &[
-            (16, 3, Err(Refusal::Range(Source::Offers, 15))),
-            (15, 0, Err(Refusal::Town(17))),
-            (15, 1, Err(Refusal::Town(19))),
-            (17, 3, Err(Refusal::Town(17))),
-            (18, 1, Err(Refusal::Town(17))),
-            (19, 3, Err(Refusal::Town(19))),
-            (27, 3, Err(Refusal::Town(27))),
-            (30, 0, Err(Refusal::Row(30))),
-            (30, 1, Err(Refusal::Row(30))),
-            (30, 9, Err(Refusal::Row(30))),
-            (30, 221, Err(Refusal::Row(30))),
-            (30, 255, Err(Refusal::Row(30))),
-            (30, 252, Err(Refusal::Row(30))),
-            (30, 2, Err(Refusal::Row(34))),
+            (16, 3, Err(Told(Refusal::Range(Source::Offers, 15), 5, 15))),
+            (15, 0, Err(Told(Refusal::Town(17), 7, 17))),
+            (15, 1, Err(Told(Refusal::Town(19), 7, 19))),
+            (17, 3, Err(Told(Refusal::Town(17), 7, 17))),
+            (18, 1, Err(Told(Refusal::Town(17), 7, 17))),
+            (19, 3, Err(Told(Refusal::Town(19), 7, 19))),
+            (27, 3, Err(Told(Refusal::Town(27), 7, 27))),
+            (30, 0, Err(Told(Refusal::Row(30), 8, 30))),
+            (30, 1, Err(Told(Refusal::Row(30), 8, 30))),
+            (30, 9, Err(Told(Refusal::Row(30), 8, 30))),
+            (30, 221, Err(Told(Refusal::Row(30), 8, 30))),
+            (30, 255, Err(Told(Refusal::Row(30), 8, 30))),
+            (30, 252, Err(Told(Refusal::Row(30), 8, 30))),
+            (30, 2, Err(Told(Refusal::Row(34), 8, 34))),
             (30, 251, Ok(())),
             (30, 5, Ok(())),
-            (31, 0, Err(Refusal::Row(31))),
-            (31, 65, Err(Refusal::Row(31))),
-            (31, 64, Err(Refusal::Length(Source::Offers, 38))),
-            (31, 1, Err(Refusal::Length(Source::Offers, 35))),
-            (32, 3, Err(Refusal::Row(32))),
-            (37, 200, Err(Refusal::Row(37))),
+            (31, 0, Err(Told(Refusal::Row(31), 8, 31))),
+            (31, 65, Err(Told(Refusal::Row(31), 8, 31))),
+            (
+                31,
+                64,
+                Err(Told(Refusal::Length(Source::Offers, 38), 1, 38)),
+            ),
+            (31, 1, Err(Told(Refusal::Length(Source::Offers, 35), 1, 35))),
+            (32, 3, Err(Told(Refusal::Row(32), 8, 32))),
+            (37, 200, Err(Told(Refusal::Row(37), 8, 37))),
         ],
     )
 }
@@ -143,14 +184,20 @@ fn order(rt: &HostRuntime, t: &mut Tally) -> io::Result<()> {
     let mut file = three(rt)?;
     build::free(&mut file)?;
     build::links(&mut file, 0, &[(0, 0)])?;
-    expect(rt, t, "no towns", &file, Err(Refusal::Town(19)))?;
+    expect(
+        rt,
+        t,
+        "no towns",
+        &file,
+        Err(Told(Refusal::Town(19), 7, 19)),
+    )?;
     let mut heavy = build::offers(rt.alloc(), &[5, 1_000_001, 3])?;
     expect(
         rt,
         t,
         "a weight above, and no rule",
         &heavy,
-        Err(Refusal::Weight(6)),
+        Err(Told(Refusal::Weight(6), 3, 6)),
     )?;
     build::free(&mut heavy)?;
     expect(
@@ -158,7 +205,7 @@ fn order(rt: &HostRuntime, t: &mut Tally) -> io::Result<()> {
         t,
         "a weight above, and no second rule",
         &heavy,
-        Err(Refusal::Weight(6)),
+        Err(Told(Refusal::Weight(6), 3, 6)),
     )?;
     let mut light = build::offers(rt.alloc(), &[1_000_000, 0, 1_000_000])?;
     build::free(&mut light)?;
@@ -205,14 +252,14 @@ fn edges(rt: &HostRuntime, t: &mut Tally) -> io::Result<()> {
         t,
         "65 groups",
         &many_groups(rt, 65, 600)?,
-        Err(Refusal::Range(Source::Offers, 15)),
+        Err(Told(Refusal::Range(Source::Offers, 15), 5, 15)),
     )?;
     expect(
         rt,
         t,
         "limit 601",
         &many_groups(rt, 2, 601)?,
-        Err(Refusal::Range(Source::Offers, 16)),
+        Err(Told(Refusal::Range(Source::Offers, 16), 5, 16)),
     )?;
     expect(rt, t, "one offer", &many_offers(rt, 1)?, Ok(()))?;
     expect(rt, t, "600 offers", &many_offers(rt, 600)?, Ok(()))?;
@@ -221,7 +268,7 @@ fn edges(rt: &HostRuntime, t: &mut Tally) -> io::Result<()> {
         t,
         "601 offers",
         &many_offers(rt, 601)?,
-        Err(Refusal::Offers),
+        Err(Told(Refusal::Offers, 2, 0)),
     )?;
     expect(rt, t, "600 volunteers", &many_volunteers(rt, 600)?, Ok(()))?;
     expect(
@@ -229,7 +276,7 @@ fn edges(rt: &HostRuntime, t: &mut Tally) -> io::Result<()> {
         t,
         "601 volunteers",
         &many_volunteers(rt, 601)?,
-        Err(Refusal::Range(Source::Offers, 2403)),
+        Err(Told(Refusal::Range(Source::Offers, 2403), 5, 2403)),
     )
 }
 

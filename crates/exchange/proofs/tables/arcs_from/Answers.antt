@@ -1,4 +1,4 @@
-use Rattle.std.proofs.Common.{◌≡◌, ℕ, ◌+◌, List, not, sym, ap, ◌∙◌, subst, arith}
+use Rattle.std.proofs.Common.{◌≡◌, ℕ, ◌+◌, List, true, not, sym, ap, ◌∙◌, subst, arith}
 use Rattle.matroid.specs.Rules.{allows}
 use Rattle.sets.specs.Bits.{marked}
 use Rattle.exchange.specs.Graph.{arc, table}
@@ -27,7 +27,7 @@ loop-u-preserved c =
                 (row_joined n c.loop-u.arcs w.join.new.arcs v u (arc f f s v) w.join.ensures c.requires.below c.loop-u-test.true
                 (sym w.exchanged.ensures ∙ w.if-exchanged.true) c.loop-u.invariant.0),
             (λ i j p q e.
-                ap (λ (x : List ℕ). table n x i j) w.arcs-is ∙ rows_kept n c.loop-u.arcs w.join.new.arcs v u w.join.ensures i j p q e
+                ap (λ (x : List ℕ). table n x i j) w.arcs-is ∙ rows_kept n c.loop-u.arcs w.join.new.arcs v u true w.join.ensures i j p q e
                 ∙ c.loop-u.invariant.1 i j p q e),
             w.asked-is ∙ others_more s (s v) u c.loop-u.asked far c.loop-u.invariant.2,
           )
