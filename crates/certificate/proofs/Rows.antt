@@ -1,7 +1,16 @@
 -- Where the rows of a certificate stand, one behind the other.
-use Rattle.std.proofs.Common.{◌≡◌, ℕ, ◌+◌, ◌-◌, ◌*◌, ◌/◌, ◌<◌, ◌≤◌, mul-le-mul_right, add-mul, arith}
+use Rattle.std.proofs.Common.{◌≡◌, ℕ, ◌+◌, ◌-◌, ◌*◌, ◌/◌, ◌<◌, ◌≤◌, mul-le-mul, mul-le-mul_right, add-mul, arith}
 use Rattle.sets.specs.Bits.{row_bytes}
 use Rattle.certificate.specs.Layout.{row_at}
+
+-- a certificate is not long
+pub row_at_small : (n i : ℕ) → n ≤ 600 → i ≤ 602 → row_at n i ≤ 6000000
+row_at_small n i h l =
+    let a : i * row_bytes n ≤ 602 * 75 = mul-le-mul l (let b : row_bytes n ≤ 75 = omega arith in b) in
+    let p : i - 2 ≤ 600 = omega arith in
+    let q : 16 * n ≤ 9600 = omega arith in
+    let b : (i - 2) * (16 * n) ≤ 600 * 9600 = mul-le-mul p q in
+    omega arith
 
 -- a later row begins behind an earlier one
 pub row_apart : (n i j : ℕ) → i < j → row_at n i + row_bytes n ≤ row_at n j

@@ -79,8 +79,11 @@ impl Limits<'_> {
         ensures { result ≡ slice_index self.now.file.now (group_at self.now.n self.now.at g + 2 + k) % 2 ^ min 8 (self.now.n - 8 * k) }
     {
         let byte = self.file[self.group_at(g) + 2 + k];
-        let left = self.n - 8 * k;
-        if left < 8 { byte % (1 << left) } else { byte }
+        if k < self.n / 8 {
+            byte
+        } else {
+            byte % (1 << (self.n % 8))
+        }
     }
 
     // Do groups g and h share an offer?

@@ -1,6 +1,6 @@
 -- Rows of bits in words: what one word tells of a row, and what a write to one row leaves of the others.
 use Rattle.std.proofs.Common.{◌≡◌, ℕ, zero, suc, ◌+◌, ◌-◌, ◌*◌, ◌/◌, ◌%◌, ◌^◌, ◌<◌, ◌≤◌, Bool, true, false, not, ◌&&◌, ◌||◌, eqb, ◌⊎◌, List, Option, MatchOption, w32, get_or, replicate, sym, refl, ap, ◌∙◌, inl, inr, ⊎_elim, add-one, arith}
-use lib.Bits.{bit_and}
+use lib.Bits.{bit_and, bit_or}
 use Rattle.std.proofs.lemmas.List.{get_or-replicate}
 use Rattle.std.proofs.lemmas.Nat.{mul-le}
 use Rattle.std.proofs.lemmas.Nat.Bits.{bit_at-trailing_zeros}
@@ -12,7 +12,19 @@ use Rattle.sets.specs.Matroid.{Set}
 use Rattle.sets.proofs.Stretches.{word_row_is}
 use Rattle.sets.proofs.Places.{row_kept}
 use Rattle.transversal.specs.Volunteers.{in_row, kept_length, some}
-use Rattle.sets.proofs.Masks.{bit, bit_and_lem, bit_not, bit_zero}
+use Rattle.sets.proofs.Masks.{bit, bit_and_lem, bit_not, bit_or_lem, bit_zero}
+
+-- a word that adds nothing to another has no bit that the other lacks
+pub word_covers : (xs ys : List ℕ) (from k y : ℕ) → bit_or (get_or xs (from + k) 0) (get_or ys k 0) ≡ get_or ys k 0 →
+    32 * k ≤ y → y < 32 * k + 32 → word_row xs from y ≡ true → word_row ys 0 y ≡ true
+word_covers xs ys from k y e low high p =
+    let a : y / 32 ≡ k = omega arith in
+    let b : bit (get_or xs (from + k) 0) (y % 32) ≡ true = ap (λ i. bit (get_or xs (from + i) 0) (y % 32)) (sym a) ∙ (sym (word_row_is xs from y) ∙ p) in
+    let d : bit (bit_or (get_or xs (from + k) 0) (get_or ys k 0)) (y % 32) ≡ (bit (get_or xs (from + k) 0) (y % 32) || bit (get_or ys k 0) (y % 32)) =
+    bit_or_lem (get_or xs (from + k) 0) (get_or ys k 0) (y % 32) in
+    let c : bit (get_or ys k 0) (y % 32) ≡ true = ap (λ w. bit w (y % 32)) (sym e) ∙ (d ∙ ap (λ u. u || bit (get_or ys k 0) (y % 32)) b) in
+    let z : k ≡ 0 + y / 32 = omega arith in
+    word_row_is ys 0 y ∙ (ap (λ i. bit (get_or ys i 0) (y % 32)) (sym z) ∙ c)
 
 -- the bits of a word of xs that the word of ys lacks are the places that row `row` of xs has and row 0 of ys has not
 pub fresh_bit : (xs ys : List ℕ) (row k y : ℕ) → get_or ys k 0 < 2 ^ 32 → y / 32 ≡ k →
