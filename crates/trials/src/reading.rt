@@ -66,6 +66,67 @@ fn three(rt: &HostRuntime) -> io::Result<Vec<u8>> {
     Ok(build::offers(rt.alloc(), &[5, 4, 3])?)
 }
 
+// One byte changed in a file of limits and volunteers.
+static LIMITS_AND_VOLUNTEERS: [(usize, u8, Result<(), Told>); 25] = [
+    (0, 0, Err(Told(Refusal::Offers, 2, 0))),
+    (1, 3, Err(Told(Refusal::Offers, 2, 0))),
+    (5, 1, Err(Told(Refusal::Weight(2), 3, 2))),
+    (9, 255, Err(Told(Refusal::Weight(6), 3, 6))),
+    (13, 1, Err(Told(Refusal::Weight(10), 3, 10))),
+    (14, 0, Err(Told(Refusal::Kind(14), 4, 14))),
+    (14, 5, Err(Told(Refusal::Kind(14), 4, 14))),
+    (15, 65, Err(Told(Refusal::Range(Source::Offers, 15), 5, 15))),
+    (
+        15,
+        255,
+        Err(Told(Refusal::Range(Source::Offers, 15), 5, 15)),
+    ),
+    (17, 3, Err(Told(Refusal::Range(Source::Offers, 16), 5, 16))),
+    (
+        18,
+        0b1000,
+        Err(Told(Refusal::Range(Source::Offers, 18), 5, 18)),
+    ),
+    (
+        18,
+        0b1000_0000,
+        Err(Told(Refusal::Range(Source::Offers, 18), 5, 18)),
+    ),
+    (21, 0b110, Err(Told(Refusal::Overlap(19), 6, 19))),
+    (21, 0b1110, Err(Told(Refusal::Overlap(19), 6, 19))),
+    (
+        21,
+        0b1011,
+        Err(Told(Refusal::Range(Source::Offers, 21), 5, 21)),
+    ),
+    (21, 0b011, Ok(())),
+    (21, 0b100, Ok(())),
+    (21, 0b001, Ok(())),
+    (21, 0, Ok(())),
+    (
+        20,
+        255,
+        Err(Told(Refusal::Range(Source::Offers, 19), 5, 19)),
+    ),
+    (22, 7, Err(Told(Refusal::Kind(22), 4, 22))),
+    (
+        24,
+        255,
+        Err(Told(Refusal::Range(Source::Offers, 23), 5, 23)),
+    ),
+    (
+        25,
+        0b1000,
+        Err(Told(Refusal::Range(Source::Offers, 25), 5, 25)),
+    ),
+    (
+        26,
+        0b1_0000,
+        Err(Told(Refusal::Range(Source::Offers, 26), 5, 26)),
+    ),
+    (26, 0, Ok(())),
+];
+
 fn limits_and_volunteers(rt: &HostRuntime, t: &mut Tally) -> io::Result<()> {
     let mut file = three(rt)?;
     build::limits(&mut file, &[(1, 0b011), (2, 0b111)])?;
@@ -76,65 +137,7 @@ fn limits_and_volunteers(rt: &HostRuntime, t: &mut Tally) -> io::Result<()> {
         t,
         "limits and volunteers, damaged",
         &file,
-        &[
-            (0, 0, Err(Told(Refusal::Offers, 2, 0))),
-            (1, 3, Err(Told(Refusal::Offers, 2, 0))),
-            (5, 1, Err(Told(Refusal::Weight(2), 3, 2))),
-            (9, 255, Err(Told(Refusal::Weight(6), 3, 6))),
-            (13, 1, Err(Told(Refusal::Weight(10), 3, 10))),
-            (14, 0, Err(Told(Refusal::Kind(14), 4, 14))),
-            (14, 5, Err(Told(Refusal::Kind(14), 4, 14))),
-            (15, 65, Err(Told(Refusal::Range(Source::Offers, 15), 5, 15))),
-            (
-                15,
-                255,
-                Err(Told(Refusal::Range(Source::Offers, 15), 5, 15)),
-            ),
-            (17, 3, Err(Told(Refusal::Range(Source::Offers, 16), 5, 16))),
-            (
-                18,
-                0b1000,
-                Err(Told(Refusal::Range(Source::Offers, 18), 5, 18)),
-            ),
-            (
-                18,
-                0b1000_0000,
-                Err(Told(Refusal::Range(Source::Offers, 18), 5, 18)),
-            ),
-            (21, 0b110, Err(Told(Refusal::Overlap(19), 6, 19))),
-            (21, 0b1110, Err(Told(Refusal::Overlap(19), 6, 19))),
-            (
-                21,
-                0b1011,
-                Err(Told(Refusal::Range(Source::Offers, 21), 5, 21)),
-            ),
-            (21, 0b011, Ok(())),
-            (21, 0b100, Ok(())),
-            (21, 0b001, Ok(())),
-            (21, 0, Ok(())),
-            (
-                20,
-                255,
-                Err(Told(Refusal::Range(Source::Offers, 19), 5, 19)),
-            ),
-            (22, 7, Err(Told(Refusal::Kind(22), 4, 22))),
-            (
-                24,
-                255,
-                Err(Told(Refusal::Range(Source::Offers, 23), 5, 23)),
-            ),
-            (
-                25,
-                0b1000,
-                Err(Told(Refusal::Range(Source::Offers, 25), 5, 25)),
-            ),
-            (
-                26,
-                0b1_0000,
-                Err(Told(Refusal::Range(Source::Offers, 26), 5, 26)),
-            ),
-            (26, 0, Ok(())),
-        ],
+        &LIMITS_AND_VOLUNTEERS,
     )
 }
 
